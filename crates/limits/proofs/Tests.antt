@@ -1,0 +1,57 @@
+-- Tests over lamellae, with one lamella more.
+use Prim.Native.Nat.{ℕ, suc}
+use mathlib.Core.Path.{_≡_, refl, sym, ap, ap₂, _∙_}
+use mathlib.Core.List.{List, [], _∷_, _++_}
+use mathlib.Core.Bool.{Bool, true, false, _&&_, _||_}
+use native.Mathlib.Omega.{arith}
+use lib.ListN.{length}
+use Rattle.panel.specs.Lamellae.{Lamella}
+use Rattle.panel.specs.Builds.{sameLamella, sameLamellae}
+use Rattle.limits.specs.Causes.{some}
+
+or-false : (a : Bool) → a ≡ (a || false)
+or-false true = refl
+or-false false = refl
+
+or-assoc : (a b c : Bool) → (a || (b || c)) ≡ ((a || b) || c)
+or-assoc true b c = refl
+or-assoc false b c = refl
+
+-- some lamella of one more: some of the former, or the last
+pub some-more : (test : Lamella → Bool) (ls : List Lamella) (l : Lamella) → some test (ls ++ (l ∷ [])) ≡ (some test ls || test l)
+unfolding some
+some-more test [] l = sym (or-false (test l))
+some-more test (x ∷ ls) l = ap (λ (t : Bool). test x || t) (some-more test ls l) ∙ or-assoc (test x) (some test ls) (test l)
+
+and-assoc : (a b c : Bool) → (a && (b && c)) ≡ ((a && b) && c)
+and-assoc true b c = refl
+and-assoc false b c = refl
+
+and-true : (a : Bool) → (a && true) ≡ a
+and-true true = refl
+and-true false = refl
+
+and-false : (a : Bool) → (a && false) ≡ false
+and-false true = refl
+and-false false = refl
+
+-- two runs of equal length with one lamella more: the former agree, and the last
+pub sameLamellae-more :
+  (xs ys : List Lamella) (x y : Lamella) → length xs ≡ length ys
+  → sameLamellae (xs ++ (x ∷ [])) (ys ++ (y ∷ [])) ≡ (sameLamellae xs ys && sameLamella x y)
+unfolding sameLamellae
+sameLamellae-more [] [] x y e = and-true (sameLamella x y)
+sameLamellae-more [] (b ∷ ys) x y e = absurd (let z : ⊥ = omega arith in z)
+sameLamellae-more (a ∷ xs) [] x y e = absurd (let z : ⊥ = omega arith in z)
+sameLamellae-more (a ∷ xs) (b ∷ ys) x y e =
+    ap (λ (t : Bool). sameLamella a b && t) (sameLamellae-more xs ys x y (omega arith))
+    ∙ and-assoc (sameLamella a b) (sameLamellae xs ys) (sameLamella x y)
+
+-- runs of unequal length never agree
+pub sameLamellae-unequal : (xs ys : List Lamella) → (length xs ≡ length ys → ⊥) → sameLamellae xs ys ≡ false
+unfolding sameLamellae
+sameLamellae-unequal [] [] ne = absurd (ne refl)
+sameLamellae-unequal [] (b ∷ ys) ne = refl
+sameLamellae-unequal (a ∷ xs) [] ne = refl
+sameLamellae-unequal (a ∷ xs) (b ∷ ys) ne =
+    ap (λ (t : Bool). sameLamella a b && t) (sameLamellae-unequal xs ys (λ e. ne (ap suc e))) ∙ and-false (sameLamella a b)

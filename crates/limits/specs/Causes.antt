@@ -1,0 +1,71 @@
+-- The causes of lines 3 to 13 of document 01's table, each as a test of a panel.
+use Prim.Native.Nat.{ℕ}
+use mathlib.Core.List.{List, [], _∷_}
+use mathlib.Core.Bool.{Bool, true, false, not, _&&_, _||_}
+use lib.Dec.{eqb, ltb}
+use Rattle.numbers.specs.Choice.{outside}
+use Rattle.panel.specs.declared.Board.{Board}
+use Rattle.panel.specs.declared.Cladding.{Cladding}
+use Rattle.panel.specs.declared.Cladding.the-variants.{Unclad, One, Two}
+use Rattle.panel.specs.declared.Panel.{Panel}
+use Rattle.panel.specs.Lamellae.{Lamella, lamellae, along, thickness}
+use Rattle.panel.specs.Boards.{known, isF, typeF, charringStart}
+use Rattle.section.specs.Tests.{depthPasses}
+
+-- 3, bond, gap: "either above 1"
+abbrev pub badBondOrGap : Panel → Bool
+badBondOrGap p = ltb 1 (p .bond) || ltb 1 (p .gap)
+
+-- 4, rate: "outside 50 to 100"
+abbrev pub badRate : Panel → Bool
+badRate p = outside 50 100 (p .rate)
+
+-- 5, strength, moment: "f outside 1 to 400, M above 1,000,000"
+abbrev pub badLoad : Panel → Bool
+badLoad p = outside 1 400 (p .strength) || ltb 1000000 (p .moment)
+
+-- 7, board types: "unknown, or F paired with A or H"
+abbrev pub badTypes : Cladding → Bool
+badTypes Unclad = false
+badTypes (One b) = not (known b)
+badTypes (Two outer inner) =
+    not (known outer) || not (known inner) || (isF outer && not (isF inner)) || (not (isF outer) && isF inner)
+
+-- 8, board numbers: "thickness outside 90 to 250, coefficient outside 1 to 100"
+abbrev pub badBoard : Board → Bool
+badBoard b = outside 90 250 (b .thickness) || outside 1 100 (b .joint)
+
+abbrev pub badBoards : Cladding → Bool
+badBoards Unclad = false
+badBoards (One b) = badBoard b
+badBoards (Two outer inner) = badBoard outer || badBoard inner
+
+-- 9, failure time: "type F: below t_ch or above 360,000; otherwise not 0"
+abbrev pub badFailureTime : Panel → Bool
+badFailureTime p =
+    (typeF (p .cladding) && outside (charringStart (p .gap) (p .cladding)) 360000 (p .«failure_time»))
+    || (not (typeF (p .cladding)) && not (eqb (p .«failure_time») 0))
+
+-- 10, lamella count: "outside 1 to 9"
+abbrev pub badCount : ℕ → Bool
+badCount count = outside 1 9 count
+
+-- 11, lamellae: "direction above 1, thickness outside 100 to 600, sum above 4,000"
+abbrev pub badLamella : Lamella → Bool
+badLamella l = ltb 1 (l .direction) || outside 100 600 (l .thickness)
+
+-- whether a test holds of some lamella
+unfoldable pub some : (Lamella → Bool) → List Lamella → Bool
+some test [] = false
+some test (l ∷ ls) = test l || some test ls
+
+abbrev pub badLamellae : Panel → Bool
+badLamellae p = some badLamella (lamellae p) || ltb 4000 (thickness (lamellae p))
+
+-- 12, lamellae: "none along"
+abbrev pub noneAlong : Panel → Bool
+noneAlong p = not (some along (lamellae p))
+
+-- 13, section: "depth 0 does not pass"
+abbrev pub badSection : Panel → Bool
+badSection p = not (depthPasses p 0)

@@ -1,0 +1,4 @@
+pub mod Lines
+pub mod Causes
+pub mod Refusals
+pub mod Answers

@@ -1,0 +1,56 @@
+// The open calls of this crate: they ask nothing of their caller.
+use crate::BuildAnswer;
+use crate::SectionAnswer;
+use crate::builds::is_same_build;
+use crate::causes::bad_count;
+use crate::groups::boards_or;
+use crate::groups::head_or;
+use crate::groups::lamella_refusal;
+use crate::lines::line_or;
+use panel::Panel;
+use section::test::depth_passes;
+use section::test::section_at;
+ghost use mathlib.Core.Path.{_≡_};
+ghost use Rattle.limits.specs.Refusals.{panelRefusal};
+ghost use Rattle.limits.specs.Answers.{sectionAnswer, buildAnswer};
+
+// Lines 3 to 13 of a panel: the number of the first that fits, or 0.
+pub fn panel_refusal(p: Panel) -> u8
+    ensures { λ r. ⌜ r ≡ panelRefusal p ⌝ }
+{
+    let n = head_or(p, boards_or(p, line_or(10, bad_count(p.count), 0)));
+    if n != 0 {
+        return n;
+    }
+    lamella_refusal(p)
+}
+
+// The section at a depth in tenths of mm, and whether the depth passes.
+pub fn section(p: Panel, depth: u32) -> SectionAnswer
+    ensures { λ r. ⌜ r ≡ sectionAnswer p depth ⌝ }
+{
+    let n = panel_refusal(p);
+    if n != 0 {
+        return SectionAnswer::Refused(n);
+    }
+    SectionAnswer::At(section_at(p, depth), depth_passes(p, depth))
+}
+
+// Whether two panels are the same build.
+pub fn same_build(a: Panel, b: Panel) -> BuildAnswer
+    ensures { λ r. ⌜ r ≡ buildAnswer a b ⌝ }
+{
+    let m = panel_refusal(a);
+    if m != 0 {
+        return BuildAnswer::Refused(m);
+    }
+    let n = panel_refusal(b);
+    if n != 0 {
+        return BuildAnswer::Refused(n);
+    }
+    if is_same_build(a, b) {
+        BuildAnswer::Same
+    } else {
+        BuildAnswer::Different
+    }
+}

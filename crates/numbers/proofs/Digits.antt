@@ -1,0 +1,53 @@
+-- Big-endian numbers, any width: reading what was written, and writing what was read.
+use Prim.Native.Nat.{ℕ, zero, suc, _+_, _*_, _/_, _%_, _^_, _<_, _≤_}
+use mathlib.Core.Path.{_≡_, refl, sym, ap, ap₂, subst, _∙_}
+use mathlib.Core.List.{List, [], _∷_}
+use native.Mathlib.Numerals.{add-one}
+use native.Mathlib.Nat.{div-add-mod', pow-succ'}
+use lib.Arith.{digits-div, digits-mod, digits-lt}
+use lib.ListN.{getD}
+use Rattle.numbers.specs.Bytes.{number, bytes}
+
+-- a byte in front moves every place up by one
+getD-cons : (x : ℕ) (l : List ℕ) (at : ℕ) → getD (x ∷ l) (at + 1) 0 ≡ getD l at 0
+getD-cons x l at = rw add-one
+
+pub number-cons : (x : ℕ) (l : List ℕ) (at w : ℕ) → number (x ∷ l) (at + 1) w ≡ number l at w
+number-cons x l at zero = refl
+number-cons x l at (suc zero) = getD-cons x l at
+number-cons x l at (suc (suc w)) =
+    ap₂ (λ (a b : ℕ). a * 256 ^ suc w + b) (getD-cons x l at) (number-cons x l (at + 1) (suc w))
+
+-- the number written is the number read
+pub number-bytes : (w v : ℕ) → number (bytes (suc w) v) 0 (suc w) ≡ v
+number-bytes zero v = refl
+number-bytes (suc w) v =
+    ap (λ (r : ℕ). v / 256 ^ suc w * 256 ^ suc w + r)
+    (number-cons (v / 256 ^ suc w) (bytes (suc w) (v % 256 ^ suc w)) 0 (suc w) ∙ number-bytes w (v % 256 ^ suc w))
+    ∙ div-add-mod' v (256 ^ suc w)
+
+-- the bytes of a list from a place on; past the end, 0
+unfoldable pub places : List ℕ → ℕ → ℕ → List ℕ
+places b at zero = []
+places b at (suc w) = getD b at 0 ∷ places b (at + 1) w
+
+-- every place of a list holds a byte
+abbrev pub AreBytes : List ℕ → Type 0
+AreBytes b = (i : ℕ) → getD b i 0 < 256
+
+-- a number in w bytes is below 256 ^ w
+pub number-below : (b : List ℕ) → AreBytes b → (at w : ℕ) → number b at (suc w) < 256 ^ suc w
+number-below b h at zero = h at
+number-below b h at (suc w) =
+    subst (λ (n : ℕ). number b at (suc (suc w)) < n) (sym (pow-succ' 256 (suc w)))
+    (digits-lt (h at) (number-below b h (at + 1) w))
+
+-- the bytes of the number read are the bytes that stood there
+pub bytes-number : (b : List ℕ) → AreBytes b → (at w : ℕ) → bytes (suc w) (number b at (suc w)) ≡ places b at (suc w)
+unfolding places
+bytes-number b h at zero = refl
+bytes-number b h at (suc w) =
+    let r = number b (at + 1) (suc w) in
+    let below : r < 256 ^ suc w = number-below b h (at + 1) w in
+    ap₂ (λ (x : ℕ) (xs : List ℕ). x ∷ xs) (digits-div (getD b at 0) below)
+    (ap (bytes (suc w)) (digits-mod (getD b at 0) below) ∙ bytes-number b h (at + 1) w)

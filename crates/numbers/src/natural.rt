@@ -1,0 +1,23 @@
+// Natural numbers of 64 bits, as functions whose results are the definitions themselves.
+ghost use mathlib.Core.Path.{_≡_};
+ghost use Prim.Native.Nat.{_-_, _≤_, _<_, max};
+
+// The difference, or 0 where there is none.
+pub fn beyond(a: u64, b: u64) -> u64
+    ensures { λ r. ⌜ (r ≡ a - b) × (r ≤ a) ⌝ }
+{
+    if b <= a { a - b } else { 0 }
+}
+
+pub fn larger(a: u64, b: u64) -> u64
+    ensures { λ r. ⌜ r ≡ max a b ⌝ }
+{
+    if a <= b { b } else { a }
+}
+
+// A thickness as a wider number.
+pub fn wide(x: u16) -> u64
+    ensures { λ r. ⌜ (r ≡ x) × (r < 65536) ⌝ }
+{
+    x as u64
+}

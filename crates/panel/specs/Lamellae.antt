@@ -1,0 +1,68 @@
+-- Document 01, "The panel record": the lamellae of a panel, and its unused places.
+use Prim.Native.Nat.{ℕ, zero, suc, _+_, _-_, _<_}
+use mathlib.Core.Path.{_≡_}
+use mathlib.Core.List.{List, [], _∷_, _++_, map}
+use mathlib.Core.Bool.{Bool}
+use lib.ListN.{length, getD, replicate}
+use lib.Dec.{eqb}
+use Rattle.panel.specs.declared.Panel.{Panel}
+
+-- "per lamella, from the exposed face: 0 across or 1 along (1), thickness in tenths of mm (2)"
+pub record Lamella : Type 0 where
+  pub direction : ℕ
+  pub thickness : ℕ
+
+abbrev pub lamella : ℕ → ℕ → Lamella
+lamella g t = record { direction = g; thickness = t }
+
+-- the first n lamellae of a direction and a thickness array
+unfoldable pub lamellaeOf : List ℕ → List ℕ → ℕ → List Lamella
+lamellaeOf gs ts zero = []
+lamellaeOf gs ts (suc i) = lamellaeOf gs ts i ++ (lamella (getD gs i 0) (getD ts i 0) ∷ [])
+
+-- a panel's lamellae: every definition about a panel sees its arrays through this one, so that
+-- "unused places are ignored by every call that is given a panel"
+abbrev pub lamellae : Panel → List Lamella
+lamellae p = lamellaeOf (p .directions) (p .thicknesses) (p .count)
+
+-- "An array of nine": the used places, then 0
+abbrev pub nine : List ℕ → List ℕ
+nine xs = xs ++ replicate (9 - length xs) 0
+
+-- "Unused places are .. read as 0": the panel with its unused places 0
+abbrev pub cleared : Panel → Panel
+cleared p =
+    record {
+      bond = p .bond;
+      rate = p .rate;
+      gap = p .gap;
+      strength = p .strength;
+      moment = p .moment;
+      «failure_time» = p .«failure_time»;
+      cladding = p .cladding;
+      count = p .count;
+      directions = nine (map (λ (l : Lamella). l .direction) (lamellae p));
+      thicknesses = nine (map (λ (l : Lamella). l .thickness) (lamellae p));
+    }
+
+-- two panels that differ at most in their unused places
+pub record SameUsed (p q : Panel) : Type 0 where
+  pub bond : p .bond ≡ q .bond
+  pub rate : p .rate ≡ q .rate
+  pub gap : p .gap ≡ q .gap
+  pub strength : p .strength ≡ q .strength
+  pub moment : p .moment ≡ q .moment
+  pub failureTime : p .«failure_time» ≡ q .«failure_time»
+  pub cladding : p .cladding ≡ q .cladding
+  pub count : p .count ≡ q .count
+  pub directions : (i : ℕ) → i < p .count → getD (p .directions) i 0 ≡ getD (q .directions) i 0
+  pub thicknesses : (i : ℕ) → i < p .count → getD (p .thicknesses) i 0 ≡ getD (q .thicknesses) i 0
+
+-- along the span, "1 along"
+abbrev pub along : Lamella → Bool
+along l = eqb (l .direction) 1
+
+-- the thickness of a run of lamellae, tenths of mm
+unfoldable pub thickness : List Lamella → ℕ
+thickness [] = 0
+thickness (l ∷ ls) = l .thickness + thickness ls

@@ -1,0 +1,3 @@
+pub mod Lamellae
+pub mod Boards
+pub mod Builds

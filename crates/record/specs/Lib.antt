@@ -1,0 +1,3 @@
+pub mod Layouts
+pub mod Refusals
+pub mod Answers

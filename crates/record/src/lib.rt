@@ -1,0 +1,19 @@
+// The panel record of document 01: its layout, the reader and the writer, and the lines that turn a record back.
+pub mod calls;
+pub mod lines;
+pub mod reader;
+pub mod writer;
+
+use panel::Panel;
+
+// What stands in a record: 0 and the panel, or the refusal's number and a blank panel.
+pub struct Reading {
+    pub refusal: u8,
+    pub panel: Panel,
+}
+
+// The number of bytes written, or the refusal's number.
+pub enum Writing {
+    Written(usize),
+    Refused(u8),
+}

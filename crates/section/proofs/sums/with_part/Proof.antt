@@ -1,0 +1,32 @@
+-- `section::sums::with_part` meets its contract: each field is what its function ensures. Assumes nothing.
+use Prim.Native.Nat.{_+_}
+use borrow.Author.Needs.{needs}
+use Rattle.section.specs.Steps.{withPart}
+use Rattle.section.proofs.sums.with_part.Statement.{statement}
+use Rattle.section.proofs.sums.with_part.Tie as tie
+
+returns : tie.Need-returns
+unfolding withPart
+returns c =
+    let a = c .before .before .before .before .before .before .before .args in
+    λ i.
+    record {
+      n = a .s .n + c .before .before .before .before .before .before .beyond .ensures .0 i;
+      p = a .s .p + c .before .before .before .before .squares .ensures .0 i;
+      q = a .s .q + c .before .before .cubes .ensures .0 i;
+      lo = c .outer-end .ensures i;
+      hi = a .b;
+    }
+
+pub with-part-spec : {M : Type 1} → statement M
+with-part-spec =
+    tie.close
+    (tie.spec
+    (λ c κs. search needs)
+    (λ c. search needs)
+    (λ c κs. search needs)
+    (λ c. search needs)
+    (λ c κs. search needs)
+    (λ c. search needs)
+    (λ c κs. search needs)
+    returns)

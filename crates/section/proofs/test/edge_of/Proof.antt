@@ -1,0 +1,35 @@
+-- `section::test::edge_of` meets its contract: up to 400.0 mm the products fit, and both distances are differences. Assumes nothing.
+use native.Mathlib.Omega.{arith}
+use borrow.Author.Needs.{needs}
+use Rattle.section.proofs.Products.{times}
+use Rattle.section.proofs.test.edge_of.Statement.{statement}
+use Rattle.section.proofs.test.edge_of.Tie as tie
+
+mul-beyond-2 : tie.Need-mul-beyond-2
+mul-beyond-2 c =
+    let a = c .args in
+    omega (arith, times (a .n) 4000 (a .lo) 4000 (search needs) (search needs))
+
+mul-beyond-4 : tie.Need-mul-beyond-4
+mul-beyond-4 c =
+    let a = c .before .args in
+    omega (arith, times (a .n) 4000 (a .hi) 4000 (search needs) (search needs))
+
+returns : tie.Need-returns
+returns c =
+    let a = c .before .before .before .args in
+    let product = times (a .n) 4000 (a .hi) 4000 (search needs) (search needs) in
+    (cc, omega arith)
+
+pub edge-of-spec : {M : Type 1} → statement M
+edge-of-spec =
+    tie.close
+    (tie.spec
+    (λ c. search needs)
+    mul-beyond-2
+    (λ c κs. search needs)
+    (λ c. search needs)
+    mul-beyond-4
+    (λ c κs. search needs)
+    (λ c κs. search needs)
+    returns)

@@ -1,0 +1,101 @@
+// The sums over the counted parts, lamella by lamella from the exposed face.
+use crate::Section;
+use numbers::natural::beyond;
+use numbers::natural::larger;
+use numbers::natural::wide;
+ghost use mathlib.Core.Path.{_≡_};
+ghost use mathlib.Core.Bool.{_&&_};
+ghost use Prim.Native.Nat.{_+_, _-_, _*_, _≤_};
+ghost use lib.Dec.{eqb, leb};
+ghost use Rattle.numbers.specs.Choice.{pick};
+ghost use Rattle.panel.specs.Lamellae.{lamella, lamellaeOf, thickness};
+ghost use Rattle.section.specs.Sections.{leastRemainder, counted, sectionOf};
+ghost use Rattle.section.specs.Steps.{withPart, withLamella};
+ghost use Rattle.section.specs.Tests.{SectionBounds};
+
+// b² − a².
+fn squares(a: u64, b: u64) -> u64
+    requires { ⌜ a ≤ 4000 ⌝ }
+    requires { ⌜ b ≤ 4000 ⌝ }
+    ensures { λ r. ⌜ (r ≡ b * b - a * a) × (r ≤ 16000000) ⌝ }
+{
+    beyond(b * b, a * a)
+}
+
+// b³ − a³.
+fn cubes(a: u64, b: u64) -> u64
+    requires { ⌜ a ≤ 4000 ⌝ }
+    requires { ⌜ b ≤ 4000 ⌝ }
+    ensures { λ r. ⌜ (r ≡ b * b * b - a * a * a) × (r ≤ 64000000000) ⌝ }
+{
+    beyond(b * b * b, a * a * a)
+}
+
+// The outer end: that of the new part where it is the first.
+fn outer_end(n: u64, a: u64, lo: u64) -> u64
+    ensures { λ r. ⌜ r ≡ pick (eqb n 0) a lo ⌝ }
+{
+    if n == 0 { a } else { lo }
+}
+
+// The sums with one more counted part, from a to b, deeper than the others.
+fn with_part(s: Section, a: u64, b: u64) -> Section
+    requires { ⌜ SectionBounds s ⌝ }
+    requires { ⌜ a ≤ 4000 ⌝ }
+    requires { ⌜ b ≤ 4000 ⌝ }
+    ensures { λ r. ⌜ r ≡ withPart s (record { from = a; to = b }) ⌝ }
+{
+    Section {
+        n: s.n + beyond(b, a),
+        p: s.p + squares(a, b),
+        q: s.q + cubes(a, b),
+        lo: outer_end(s.n, a, s.lo),
+        hi: b,
+    }
+}
+
+// Whether what is left of a lamella is counted.
+fn is_counted(direction: u8, a: u64, b: u64) -> bool
+    ensures { λ r. ⌜ r ≡ (eqb direction 1 && leb leastRemainder (b - a)) ⌝ }
+{
+    (direction == 1) & (30 <= beyond(b, a))
+}
+
+// The sums with one more lamella, which begins at top.
+fn with_lamella(s: Section, depth: u64, top: u64, direction: u8, thick: u16) -> Section
+    requires { ⌜ SectionBounds s ⌝ }
+    requires { ⌜ top + thick ≤ 4000 ⌝ }
+    ensures { λ r. ⌜ r ≡ withLamella depth top (lamella direction thick) s ⌝ }
+{
+    let from = larger(depth, top);
+    let to = top + wide(thick);
+    if is_counted(direction, from, to) {
+        with_part(s, from, to)
+    } else {
+        s
+    }
+}
+
+// No open call: the limits of lines 10 and 11 must hold.
+pub fn section_of(directions: [u8; 9], thicknesses: [u16; 9], count: usize, depth: u32) -> Section
+    requires { ⌜ count ≤ 9 ⌝ }
+    requires { ⌜ thickness (lamellaeOf directions thicknesses count) ≤ 4000 ⌝ }
+    ensures { λ r. ⌜ r ≡ sectionOf (counted depth (lamellaeOf directions thicknesses count)) ⌝ }
+{
+    let mut s = Section {
+        n: 0,
+        p: 0,
+        q: 0,
+        lo: 0,
+        hi: 0,
+    };
+    let mut top: u64 = 0;
+    let mut i = 0;
+    while i < count {
+        let thick = thicknesses[i];
+        s = with_lamella(s, depth as u64, top, directions[i], thick);
+        top += wide(thick);
+        i += 1;
+    }
+    s
+}
