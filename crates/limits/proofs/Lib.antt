@@ -1,1 +1,3 @@
+pub mod Accepted
+pub mod FirstLine
 pub mod Tests

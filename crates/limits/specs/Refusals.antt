@@ -1,6 +1,6 @@
 -- Document 01, "Where a record is turned back": the lines that every call given a panel checks. Lines 1, 2 and 6 are about a
 -- record's bytes (crate `record`), lines 14 and 15 about the call.
-use Prim.Native.Nat.{ℕ}
+use Prim.Native.Nat.{ℕ, _≤_}
 use mathlib.Core.List.{List, [], _∷_, _++_}
 use Rattle.panel.specs.declared.Panel.{Panel}
 use Rattle.limits.specs.Lines.{Line, line, refusal}
@@ -34,5 +34,12 @@ lamellaLines p = line 11 (badLamellae p) ∷ line 12 (noneAlong p) ∷ line 13 (
 abbrev pub panelLines : Panel → List Line
 panelLines p = headLines p ++ boardLines p ++ (line 10 (badCount (p .count)) ∷ []) ++ lamellaLines p
 
+-- 0: the panel is accepted
 unfoldable pub panelRefusal : Panel → ℕ
 panelRefusal p = refusal (panelLines p)
+
+-- what lines 5 and 10 leave, under which lines 11 to 13 are worked out
+pub record Loaded (p : Panel) : Type 0 where
+  pub strength : p .strength ≤ 400
+  pub moment : p .moment ≤ 1000000
+  pub count : p .count ≤ 9

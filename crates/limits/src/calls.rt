@@ -8,7 +8,7 @@ use crate::groups::head_or;
 use crate::groups::lamella_refusal;
 use crate::lines::line_or;
 use panel::Panel;
-use section::test::depth_passes;
+use section::test::section_passes;
 use section::test::section_at;
 ghost use mathlib.Core.Path.{_≡_};
 ghost use Rattle.limits.specs.Refusals.{panelRefusal};
@@ -33,7 +33,8 @@ pub fn section(p: Panel, depth: u32) -> SectionAnswer
     if n != 0 {
         return SectionAnswer::Refused(n);
     }
-    SectionAnswer::At(section_at(p, depth), depth_passes(p, depth))
+    let s = section_at(p, depth);
+    SectionAnswer::At(s, section_passes(p.moment, p.strength, s))
 }
 
 // Whether two panels are the same build.

@@ -12,8 +12,11 @@ use crate::lines::line_or;
 use panel::Panel;
 use section::test::depth_passes;
 ghost use mathlib.Core.Path.{_≡_};
-ghost use Rattle.limits.specs.Lines.{firstOr, refusal};
-ghost use Rattle.limits.specs.Refusals.{headLines, boardLines, lamellaLines};
+ghost use mathlib.Core.List.{[], _∷_};
+ghost use Prim.Native.Nat.{_≤_};
+ghost use Rattle.limits.specs.Causes.{badLamellae, noneAlong};
+ghost use Rattle.limits.specs.Lines.{line, firstOr, refusal};
+ghost use Rattle.limits.specs.Refusals.{headLines, boardLines, lamellaLines, Loaded};
 
 // Lines 3 to 5.
 pub fn head_or(p: Panel, below: u8) -> u8
@@ -38,19 +41,23 @@ pub fn boards_or(p: Panel, below: u8) -> u8
     )
 }
 
-// Lines 11 and 12.
-fn lamellae_or(p: Panel) -> u8 {
+// Lines 11 and 12. No open call: the count must be at most 9.
+fn lamellae_or_none(p: Panel) -> u8
+    requires { ⌜ p .count ≤ 9 ⌝ }
+    ensures { λ r. ⌜ r ≡ refusal (line 11 (badLamellae p) ∷ line 12 (noneAlong p) ∷ []) ⌝ }
+{
     let g = p.directions;
     let t = p.thicknesses;
     let bad = some_bad_lamella(g, t, p.count) | (4000 < total_thickness(t, p.count));
     line_or(11, bad, line_or(12, !some_along(g, p.count), 0))
 }
 
-// Lines 11 to 13.
+// Lines 11 to 13. No open call: lines 5 and 10 must not fit.
 pub fn lamella_refusal(p: Panel) -> u8
+    requires { ⌜ Loaded p ⌝ }
     ensures { λ r. ⌜ r ≡ refusal (lamellaLines p) ⌝ }
 {
-    let n = lamellae_or(p);
+    let n = lamellae_or_none(p);
     if n != 0 {
         return n;
     }

@@ -1,78 +1,51 @@
+-- `limits::builds::same_lamellae` meets its contract: after i turns the flag says whether the first i lamellae agree.
+-- Assumes nothing.
+use Prim.Native.Nat.{_-_, _≤_}
+use Rattle.limits.proofs.Tests.{sameLamellae-more}
+use Rattle.panel.proofs.Used.{length-lamellaeOf}
+use Rattle.panel.specs.Builds.{sameLamellae}
+use Rattle.panel.specs.Lamellae.{lamella, lamellaeOf}
+use lib.ListN.{length, getD}
+use mathlib.Core.Bool.{Bool, _&&_}
+use mathlib.Core.Path.{refl, sym, ap₂, _∙_, _≡_}
+use native.Mathlib.Numerals.{add-one}
+use native.Mathlib.Omega.{arith}
 use Rattle.limits.proofs.builds.same_lamellae.Statement.{statement}
 use Rattle.limits.proofs.builds.same_lamellae.Tie as tie
-use Rattle.limits.proofs.builds.same_lamellae.Reads as reads
-use Rattle.limits.proofs.builds.same_lamellae.Lts as lts
-use Rattle.limits.proofs.builds.same_lamella.Reads as same-lamella-reads
 
 abbrev Inv-loop : tie.InvT-loop
-Inv-loop count g h t u same₀ i₀ same i = ?
+Inv-loop count g h t u same₀ i₀ same i = (i ≤ count) × (same ≡ sameLamellae (lamellaeOf g t i) (lamellaeOf h u i))
 
 abbrev μ-loop : tie.MeasureT-loop
-μ-loop count g h t u same₀ i₀ same i = ?
+μ-loop count g h t u same₀ i₀ same i = count - i
 
--- src/builds.rt:75:5
 loop-holds : tie.Need-loop-holds Inv-loop μ-loop
-loop-holds c = ?
+unfolding lamellaeOf sameLamellae
+loop-holds c = (omega arith, refl)
 
--- src/builds.rt:76:36
-array-read-same-lamella : tie.Need-array-read-same-lamella Inv-loop μ-loop
-array-read-same-lamella c = ?
-
--- src/builds.rt:76:42
-array-read-same-lamella-2 : tie.Need-array-read-same-lamella-2 Inv-loop μ-loop
-array-read-same-lamella-2 c = ?
-
--- src/builds.rt:76:48
-mul-same-lamella : tie.Need-mul-same-lamella Inv-loop μ-loop
-mul-same-lamella c = ?
-
--- src/builds.rt:76:48
-array-read-same-lamella-3 : tie.Need-array-read-same-lamella-3 Inv-loop μ-loop
-array-read-same-lamella-3 c = ?
-
--- src/builds.rt:76:54
-mul-same-lamella-2 : tie.Need-mul-same-lamella-2 Inv-loop μ-loop
-mul-same-lamella-2 c = ?
-
--- src/builds.rt:76:54
-array-read-same-lamella-4 : tie.Need-array-read-same-lamella-4 Inv-loop μ-loop
-array-read-same-lamella-4 c = ?
-
--- src/builds.rt:76:23
 same-lamella-requires : tie.Need-same-lamella-requires Inv-loop μ-loop
-same-lamella-requires c κs = ?
+same-lamella-requires c κs = tt
 
--- src/builds.rt:77:9
-add-i : tie.Need-add-i Inv-loop μ-loop
-add-i c = ?
-
--- src/builds.rt:75:5
-loop-less : tie.Need-loop-less Inv-loop μ-loop
-loop-less c = ?
-
--- src/builds.rt:75:5
 loop-again : tie.Need-loop-again Inv-loop μ-loop
-loop-again c = ?
+unfolding lamellaeOf
+loop-again c =
+    let gs = c .before .before .before .before .before .before .before .args .a .directions in
+    let hs = c .before .before .before .before .before .before .before .args .b .directions in
+    let ts = c .before .before .before .before .before .before .before .args .a .thicknesses in
+    let us = c .before .before .before .before .before .before .before .args .b .thicknesses in
+    let i = c .before .before .loop .i in
+    let e : length (lamellaeOf gs ts i) ≡ length (lamellaeOf hs us i) = length-lamellaeOf gs ts i ∙ sym (length-lamellaeOf hs us i) in
+    (omega arith,
+     rw (add-one)
+     (ap₂ (λ (a b : Bool). a && b) (c .before .before .loop .inv .1) (c .same-lamella .ensures)
+      ∙ sym (sameLamellae-more (lamellaeOf gs ts i) (lamellaeOf hs us i) (lamella (getD gs i 0) (getD ts i 0)) (lamella (getD hs i 0) (getD us i 0)) e)))
 
--- src/builds.rt:65:1
 returns : tie.Need-returns Inv-loop μ-loop
-returns c = ?
+returns c =
+    let e : c .before .loop .i ≡ c .before .before .before .before .before .before .args .count = omega arith in
+    rw (← e) (c .before .loop .inv .1)
 
 pub same-lamellae-spec : {M : Type 1} → statement M
 same-lamellae-spec =
     tie.close
-    (tie.spec
-    Inv-loop
-    μ-loop
-    loop-holds
-    array-read-same-lamella
-    array-read-same-lamella-2
-    mul-same-lamella
-    array-read-same-lamella-3
-    mul-same-lamella-2
-    array-read-same-lamella-4
-    same-lamella-requires
-    add-i
-    loop-less
-    loop-again
-    returns)
+    (tie.spec Inv-loop μ-loop loop-holds (λ c. omega arith) (λ c. omega arith) (λ c. omega arith) (λ c. omega arith) (λ c. omega arith) (λ c. omega arith) same-lamella-requires (λ c. omega arith) (λ c. omega arith) loop-again returns)

@@ -4,6 +4,7 @@ use Prim.Native.Nat.{ℕ, _-_, _≤_}
 use Rattle.limits.proofs.Tests.{some-more}
 use Rattle.limits.specs.Causes.{some, badLamella}
 use Rattle.panel.specs.Lamellae.{lamellaeOf}
+use mathlib.Core.Bool.{Bool, _||_}
 use mathlib.Core.Path.{refl, ap, ap₂, _∙_, _≡_}
 use native.Mathlib.Numerals.{add-one}
 use native.Mathlib.Omega.{arith}
@@ -22,11 +23,12 @@ loop-holds c = (omega arith, refl)
 
 loop-again : tie.Need-loop-again Inv-loop μ-loop
 unfolding lamellaeOf
-loop-again c = (omega arith, rw (add-one, some-more) (ap₂ _||_ (c .before .before .loop .inv .1) (c .bad-lamella .ensures)))
+loop-again c =
+    (omega arith, rw (add-one, some-more) (ap₂ (λ (a b : Bool). a || b) (c .before .before .loop .inv .1) (c .bad-lamella .ensures)))
 
 returns : tie.Need-returns Inv-loop μ-loop
 returns c =
-    c .before .loop .inv .1 ∙ ap (λ (k : ℕ). some badLamella (lamellaeOf (c .before .before .args .directions) (c .before .before .args .thicknesses) k)) (omega arith)
+    c .before .loop .inv .1 ∙ ap (λ (k : ℕ). some badLamella (lamellaeOf (c .before .before .args .t1) (c .before .before .args .t2) k)) (omega arith)
 
 pub some-bad-lamella-spec : {M : Type 1} → statement M
 some-bad-lamella-spec =

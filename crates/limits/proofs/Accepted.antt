@@ -1,0 +1,89 @@
+-- What holds of a panel that no line turns back, as inequalities: the limits that later calls work within.
+use Prim.Native.Nat.{ℕ, zero, suc, _+_, _-_, _*_, _<_, _≤_}
+use mathlib.Core.Path.{_≡_, refl, sym, ap, _∙_}
+use mathlib.Core.List.{List, [], _∷_, _++_}
+use mathlib.Core.Bool.{Bool, true, false, not, _&&_, _||_}
+use native.Mathlib.Omega.{arith}
+use native.Mathlib.Decide.{decLt}
+use borrow.Author.Tests.{ltb-false, not-false, not-true}
+use lib.ListN.{getD}
+use lib.Dec.{ltb}
+use Rattle.numbers.specs.Choice.{pick, outside}
+use Rattle.panel.specs.declared.Board.{Board}
+use Rattle.panel.specs.declared.Cladding.{Cladding}
+use Rattle.panel.specs.declared.Cladding.the-variants.{Unclad, One, Two}
+use Rattle.panel.specs.declared.Panel.{Panel}
+use Rattle.panel.specs.Lamellae.{Lamella, lamella, lamellae, lamellaeOf, along, thickness}
+use Rattle.panel.specs.Boards.{gapLoss, innerGain, known, isF}
+use Rattle.section.specs.Tests.{SectionFits, depthPasses}
+use Rattle.limits.specs.Lines.{Line, line, NoneFits}
+use Rattle.limits.specs.Causes.{badTypes, badBoard, badBoards, badLamella, badLamellae, noneAlong, badFailureTime, badCount, some}
+use Rattle.limits.specs.Refusals.{headLines, boardLines, lamellaLines, panelLines, panelRefusal, Loaded}
+use Rattle.limits.proofs.FirstLine.{first-none}
+use Rattle.limits.proofs.Tests.{some-more}
+
+-- Tests that fail
+
+pub or-none : (a b : Bool) → (a || b) ≡ false → (a ≡ false) × (b ≡ false)
+or-none true b e = absurd (let z : _≡_ {A = ℕ} 0 1 = cc in let n : ⊥ = omega arith in n)
+or-none false b e = (refl, e)
+
+pub in-range : (least greatest x : ℕ) → outside least greatest x ≡ false → (least ≤ x) × (x ≤ greatest)
+in-range least greatest x e =
+    let h = or-none (ltb x least) (ltb greatest x) e in
+    (ltb-false x least (h .0), ltb-false greatest x (h .1))
+
+-- Lines that do not fit
+
+-- lines 3 to 10 of a panel
+abbrev pub upperLines : Panel → List Line
+upperLines p = headLines p ++ boardLines p ++ (line 10 (badCount (p .count)) ∷ [])
+
+-- lines 11 and 12
+abbrev pub middleLines : Panel → List Line
+middleLines p = line 11 (badLamellae p) ∷ line 12 (noneAlong p) ∷ []
+
+-- what line 5 leaves of the load, and line 10 of the count
+pub loaded-by :
+  (p : Panel) → NoneFits (headLines p) → badCount (p .count) ≡ false → Loaded p
+loaded-by p h e =
+    let load = or-none (outside 1 400 (p .strength)) (ltb 1000000 (p .moment)) (h .1 .1 .0) in
+    record {
+      strength = in-range 1 400 (p .strength) (load .0) .1;
+      moment = ltb-false 1000000 (p .moment) (load .1);
+      count = in-range 1 9 (p .count) e .1
+    }
+
+pub loaded : (p : Panel) → NoneFits (upperLines p) → Loaded p
+loaded p h = loaded-by p (h .0, (h .1 .0, (h .1 .1 .0, tt))) (h .1 .1 .1 .1 .1 .1 .0)
+
+-- with lines 11 and 12, the section test fits its numbers
+pub section-fits : (p : Panel) → Loaded p → NoneFits (middleLines p) → SectionFits p
+section-fits p l h =
+    record {
+      strength = l .strength;
+      moment = l .moment;
+      count = l .count;
+      thickness = ltb-false 4000 (thickness (lamellae p)) (or-none (some badLamella (lamellae p)) (ltb 4000 (thickness (lamellae p))) (h .0) .1)
+    }
+
+-- Accepted panels
+
+-- no line of an accepted panel fits
+pub none-fits : (p : Panel) → panelRefusal p ≡ 0 → NoneFits (panelLines p)
+unfolding panelRefusal
+none-fits p e = first-none (panelLines p) tt e
+
+pub accepted-loaded : (p : Panel) → panelRefusal p ≡ 0 → Loaded p
+accepted-loaded p e =
+    let h = none-fits p e in
+    loaded-by p (h .0, (h .1 .0, (h .1 .1 .0, tt))) (h .1 .1 .1 .1 .1 .1 .0)
+
+pub accepted-fits : (p : Panel) → panelRefusal p ≡ 0 → SectionFits p
+accepted-fits p e =
+    let h = none-fits p e .1 .1 .1 .1 .1 .1 .1 in
+    section-fits p (accepted-loaded p e) (h .0, (h .1 .0, tt))
+
+-- an accepted panel passes at depth 0
+pub accepted-passes : (p : Panel) → panelRefusal p ≡ 0 → depthPasses p 0 ≡ true
+accepted-passes p e = not-false (depthPasses p 0) (none-fits p e .1 .1 .1 .1 .1 .1 .1 .1 .1 .0)

@@ -1,0 +1,93 @@
+-- A table of lines: the refusal is the first line that fits.
+use Prim.Native.Nat.{ℕ, zero, suc, _<_}
+use mathlib.Core.Path.{_≡_, refl, sym, ap, _∙_}
+use mathlib.Core.List.{List, [], _∷_, _++_}
+use mathlib.Core.Bool.{Bool, true, false, _&&_}
+use mathlib.Core.Logic.{_↔_}
+use native.Mathlib.Omega.{arith}
+use lib.Dec.{T, ltb, ltb→lt}
+use Rattle.numbers.specs.Choice.{pick}
+use Rattle.limits.specs.Lines.{Line, firstOr, refusal, NoneFits, numbered, answer}
+
+T-left : (a b : Bool) → T (a && b) → T a
+T-left true b t = tt
+
+T-right : (a b : Bool) → T (a && b) → T b
+T-right true b t = t
+
+pick-none : (c : Bool) (n below : ℕ) → T (ltb 0 n) → pick c n below ≡ 0 → (c ≡ false) × (below ≡ 0)
+pick-none true n below t e = absurd (let h : 0 < n = ltb→lt 0 n t in let z : ⊥ = omega arith in z)
+pick-none false n below t e = (refl, e)
+
+-- where nothing is refused, no line fits
+pub first-none : (ls : List Line) → T (numbered ls) → refusal ls ≡ 0 → NoneFits ls
+first-none [] t e = tt
+first-none (l ∷ ls) t e =
+    let h = pick-none (l .fits) (l .number) (refusal ls) (T-left (ltb 0 (l .number)) (numbered ls) t) e in
+    (h .0, first-none ls (T-right (ltb 0 (l .number)) (numbered ls) t) (h .1))
+
+-- where no line fits, the lines below decide
+pub none-first : (ls : List Line) → NoneFits ls → (below : ℕ) → firstOr ls below ≡ below
+none-first [] h below = refl
+none-first (l ∷ ls) h below = rw (h .0) (none-first ls (h .1) below)
+
+-- a table refuses nothing exactly when no line of it fits
+pub accepted-iff : (ls : List Line) → T (numbered ls) → (refusal ls ≡ 0) ↔ NoneFits ls
+accepted-iff ls t = (first-none ls t, λ h. none-first ls h 0)
+
+-- where a line fits, the lines below the table do not matter
+pub first-some : (ls : List Line) (below : ℕ) → (refusal ls ≡ 0 → ⊥) → firstOr ls below ≡ refusal ls
+first-some [] below ne = absurd (ne refl)
+first-some (l ∷ ls) below ne = go (l .fits) (first-some ls below) ne
+  where
+    go :
+      (c : Bool)
+      → ((refusal ls ≡ 0 → ⊥) → firstOr ls below ≡ refusal ls)
+      → (pick c (l .number) (refusal ls) ≡ 0 → ⊥)
+      → pick c (l .number) (firstOr ls below) ≡ pick c (l .number) (refusal ls)
+    go true rest k = refl
+    go false rest k = rest k
+
+-- a refusal is a line of the table that fits, and none before it does
+pub record First (ls : List Line) (n : ℕ) : Type 0 where
+  pub before : List Line
+  pub this : Line
+  pub after : List Line
+  pub split : ls ≡ before ++ (this ∷ after)
+  pub none : NoneFits before
+  pub fits : this .fits ≡ true
+  pub number : this .number ≡ n
+
+pub refusal-first : (ls : List Line) → (refusal ls ≡ 0 → ⊥) → First ls (refusal ls)
+refusal-first [] ne = absurd (ne refl)
+refusal-first (l ∷ ls) ne = go (l .fits) refl (refusal-first ls) ne
+  where
+    go :
+      (c : Bool)
+      → l .fits ≡ c
+      → ((refusal ls ≡ 0 → ⊥) → First ls (refusal ls))
+      → (pick c (l .number) (refusal ls) ≡ 0 → ⊥)
+      → First (l ∷ ls) (pick c (l .number) (refusal ls))
+    go true e rest k = record { before = []; this = l; after = ls; split = refl; none = tt; fits = e; number = refl }
+    go false e rest k =
+        let f = rest k in
+        record {
+          before = l ∷ f .before;
+          this = f .this;
+          after = f .after;
+          split = ap (λ (xs : List Line). l ∷ xs) (f .split);
+          none = (e, f .none);
+          fits = f .fits;
+          number = f .number
+        }
+
+-- Answers
+
+-- a refusal is answered by its number
+pub refused {ℓ} : {A : Type ℓ} (n : ℕ) (f : ℕ → A) (value : A) → (n ≡ 0 → ⊥) → f n ≡ answer n f value
+refused zero f value ne = absurd (ne refl)
+refused (suc n) f value ne = refl
+
+-- no refusal: the value is answered
+pub answered {ℓ} : {A : Type ℓ} (n : ℕ) (f : ℕ → A) (value : A) → n ≡ 0 → value ≡ answer n f value
+answered n f value e = rw e
