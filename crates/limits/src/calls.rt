@@ -12,7 +12,7 @@ use section::test::section_passes;
 use section::test::section_at;
 ghost use mathlib.Core.Path.{_≡_};
 ghost use Rattle.limits.specs.Refusals.{panelRefusal};
-ghost use Rattle.limits.specs.Answers.{sectionAnswer, buildAnswer};
+ghost use Rattle.limits.specs.Answers.{sectionAnswer, buildAnswer, sameIf};
 
 // Lines 3 to 13 of a panel: the number of the first that fits, or 0.
 pub fn panel_refusal(p: Panel) -> u8
@@ -37,6 +37,16 @@ pub fn section(p: Panel, depth: u32) -> SectionAnswer
     SectionAnswer::At(s, section_passes(p.moment, p.strength, s))
 }
 
+fn same_if(same: bool) -> BuildAnswer
+    ensures { λ r. ⌜ r ≡ sameIf same ⌝ }
+{
+    if same {
+        BuildAnswer::Same
+    } else {
+        BuildAnswer::Different
+    }
+}
+
 // Whether two panels are the same build.
 pub fn same_build(a: Panel, b: Panel) -> BuildAnswer
     ensures { λ r. ⌜ r ≡ buildAnswer a b ⌝ }
@@ -49,9 +59,5 @@ pub fn same_build(a: Panel, b: Panel) -> BuildAnswer
     if n != 0 {
         return BuildAnswer::Refused(n);
     }
-    if is_same_build(a, b) {
-        BuildAnswer::Same
-    } else {
-        BuildAnswer::Different
-    }
+    same_if(is_same_build(a, b))
 }

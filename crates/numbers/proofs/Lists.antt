@@ -26,3 +26,9 @@ drop-min (x ∷ l) (suc a) =
 pub sets-then : (l : List ℕ) (i : ℕ) (vs : List ℕ) (j : ℕ) (ws : List ℕ) → j ≡ i + length vs → sets (sets l i vs) j ws ≡ sets l i (vs ++ ws)
 sets-then l i [] j ws e = ap (λ (k : ℕ). sets l k ws) (e ∙ add-zero i)
 sets-then l i (v ∷ vs) j ws e = sets-then (set l i v) (suc i) vs j ws (e ∙ add-suc i (length vs) ∙ sym (suc-add i (length vs)))
+
+-- the same for lists that come one after the other: l₁ is l with stores from i on, l₂ is l₁ with stores from where these end
+pub then-put :
+  (l l₁ l₂ : List ℕ) (i : ℕ) (vs : List ℕ) (j : ℕ) (ws : List ℕ)
+  → l₁ ≡ sets l i vs → j ≡ i + length vs → l₂ ≡ sets l₁ j ws → l₂ ≡ sets l i (vs ++ ws)
+then-put l l₁ l₂ i vs j ws e₁ e e₂ = e₂ ∙ ap (λ (r : List ℕ). sets r j ws) e₁ ∙ sets-then l i vs j ws e

@@ -9,6 +9,7 @@ use Rattle.panel.specs.declared.Cladding.{Cladding}
 use Rattle.panel.specs.declared.Cladding.the-variants.{Unclad, One, Two}
 use Rattle.panel.specs.declared.Panel.{Panel}
 use Rattle.panel.specs.Lamellae.{Lamella, lamellae, nine}
+use Rattle.record.specs.declared.Lamellae.{Lamellae}
 
 -- The layout
 
@@ -71,6 +72,14 @@ lamellaeIn u (suc i) = lamellaeIn u i ++ (lamellaFrom (fields lamellaWidths u (3
 abbrev pub recordLamellae : List ℕ → List Lamella
 recordLamellae b = lamellaeIn (lamellaPart b) (min (lamellaCount b) 9)
 
+-- lamellae as a panel holds them
+abbrev pub arraysOf : List Lamella → Lamellae
+arraysOf ls =
+    record
+    { directions = nine (map (λ (l : Lamella). l .direction) ls)
+    ; thicknesses = nine (map (λ (l : Lamella). l .thickness) ls)
+    }
+
 -- the panel that stands in a record
 unfoldable pub panelOf : List ℕ → Panel
 panelOf b =
@@ -83,8 +92,8 @@ panelOf b =
       «failure_time» = getD (fields headWidths (body b) 0) 6 0;
       cladding = claddingAt (boardCount b) (body b);
       count = lamellaCount b;
-      directions = nine (map (λ (l : Lamella). l .direction) (recordLamellae b));
-      thicknesses = nine (map (λ (l : Lamella). l .thickness) (recordLamellae b));
+      directions = arraysOf (recordLamellae b) .directions;
+      thicknesses = arraysOf (recordLamellae b) .thicknesses;
     }
 
 -- Writing

@@ -29,19 +29,22 @@ abbrev pub badLamellaCount : List ℕ → Bool
 badLamellaCount b =
     badCount (lamellaCount b) || not (eqb (length b) (18 + 4 * boardCount b + 3 * lamellaCount b))
 
--- lines 1 to 13, in order
-abbrev pub recordLines : List ℕ → List Line
-recordLines b =
+-- lines 1 to 10 of the bytes b in which the panel p stands, in order
+abbrev pub upperLines : List ℕ → Panel → List Line
+upperLines b p =
     (line 1 (badLength b) ∷ line 2 (badVersion b) ∷ [])
-    ++ headLines (panelOf b)
+    ++ headLines p
     ++ (line 6 (badBoardCount b) ∷ [])
-    ++ boardLines (panelOf b)
+    ++ boardLines p
     ++ (line 10 (badLamellaCount b) ∷ [])
-    ++ lamellaLines (panelOf b)
+
+-- and lines 11 to 13
+abbrev pub recordLines : List ℕ → Panel → List Line
+recordLines b p = upperLines b p ++ lamellaLines p
 
 -- "A record is accepted when no line about the record itself fits": refusal 0
 unfoldable pub recordRefusal : List ℕ → ℕ
-recordRefusal b = refusal (recordLines b)
+recordRefusal b = refusal (recordLines b (panelOf b))
 
 -- 14, lent space: "fewer bytes than the record .. written"
 abbrev pub shortFor : Panel → List ℕ → Bool

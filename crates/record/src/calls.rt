@@ -3,8 +3,8 @@ use crate::Reading;
 use crate::Writing;
 use crate::lines::record_refusal;
 use crate::reader::panel_of;
-use crate::writer::boards_of;
 use crate::writer::put_record;
+use crate::writer::record_length;
 use limits::calls::panel_refusal;
 use panel::Cladding;
 use panel::Panel;
@@ -55,11 +55,10 @@ pub fn write(p: Panel, out: &mut [u8]) -> Writing
     if n != 0 {
         return Writing::Refused(n);
     }
-    let c = p.cladding;
-    let length = 18 + 4 * (boards_of(c) as usize) + 3 * p.count;
+    let length = record_length(p);
     if out.len() < length {
         return Writing::Refused(14);
     }
-    put_record(out, p, length as u16);
+    put_record(out, p);
     Writing::Written(length)
 }

@@ -6,6 +6,12 @@ pub mod writer;
 
 use panel::Panel;
 
+// The arrays of a panel's lamellae.
+pub struct Lamellae {
+    pub directions: [u8; 9],
+    pub thicknesses: [u16; 9],
+}
+
 // What stands in a record: 0 and the panel, or the refusal's number and a blank panel.
 pub struct Reading {
     pub refusal: u8,

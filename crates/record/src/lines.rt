@@ -10,8 +10,9 @@ use numbers::bytes::get8;
 use numbers::bytes::get16;
 use panel::Panel;
 ghost use mathlib.Core.Path.{_≡_};
-ghost use Rattle.record.specs.Layouts.{panelOf};
-ghost use Rattle.record.specs.Refusals.{badLength, badVersion, badBoardCount, badLamellaCount, recordRefusal};
+ghost use Rattle.limits.specs.Lines.{refusal};
+ghost use Rattle.record.specs.Layouts.{lamellaCount};
+ghost use Rattle.record.specs.Refusals.{badLength, badVersion, badBoardCount, badLamellaCount, upperLines, recordLines};
 
 fn bad_length(s: &[u8]) -> bool
     ensures { λ r. ⌜ r ≡ badLength (now (s .entry)) ⌝ }
@@ -41,21 +42,21 @@ fn bad_lamella_count(s: &[u8]) -> bool
     bad_count(n) | !(s.len() == 18 + 4 * c + 3 * n)
 }
 
-// Lines 1 to 13 of a record and the panel that stands in it: the number of the first that fits, or 0.
-pub fn record_refusal(s: &[u8], p: Panel) -> u8
-    requires { ⌜ p ≡ panelOf (now s) ⌝ }
-    ensures { λ r. ⌜ r ≡ recordRefusal (now (s .entry)) ⌝ }
+// Lines 1 to 10.
+fn upper_refusal(s: &[u8], p: Panel) -> u8
+    ensures { λ r. ⌜ r ≡ refusal (upperLines (now (s .entry)) p) ⌝ }
 {
-    let lower = line_or(
-        6,
-        bad_board_count(s),
-        boards_or(p, line_or(10, bad_lamella_count(s), 0)),
-    );
-    let n = line_or(
-        1,
-        bad_length(s),
-        line_or(2, bad_version(s), head_or(p, lower)),
-    );
+    let lower = line_or(6, bad_board_count(s), boards_or(p, line_or(10, bad_lamella_count(s), 0)));
+    line_or(1, bad_length(s), line_or(2, bad_version(s), head_or(p, lower)))
+}
+
+// Lines 1 to 13 of a record in which p stands: the number of the first that fits, or 0. No open call: p's count must be the
+// record's.
+pub fn record_refusal(s: &[u8], p: Panel) -> u8
+    requires { ⌜ p .count ≡ lamellaCount (now s) ⌝ }
+    ensures { λ r. ⌜ r ≡ refusal (recordLines (now (s .entry)) p) ⌝ }
+{
+    let n = upper_refusal(s, p);
     if n != 0 {
         return n;
     }

@@ -1,6 +1,7 @@
 // Takes a record apart by the layout. Nothing is asked of the bytes: one past the end reads as 0, and the lines in `lines` say
 // whether the panel stands for a record.
 use numbers::bytes::get8;
+use crate::Lamellae;
 use numbers::bytes::get16;
 use numbers::bytes::get32;
 use numbers::bytes::part_from;
@@ -10,16 +11,9 @@ use panel::Board;
 use panel::Cladding;
 use panel::Panel;
 ghost use mathlib.Core.Path.{_≡_};
-ghost use mathlib.Core.List.{map};
 ghost use Prim.Native.Nat.{_≤_, _<_};
 ghost use Rattle.numbers.specs.Bytes.{fields};
-ghost use Rattle.panel.specs.Lamellae.{nine};
-ghost use Rattle.record.specs.Layouts.{boardWidths, boardCount, lamellaCount, lamellaPart, boardFrom, claddingAt, lamellaeIn, recordLamellae, panelOf};
-
-pub struct Lamellae {
-    pub directions: [u8; 9],
-    pub thicknesses: [u16; 9],
-}
+ghost use Rattle.record.specs.Layouts.{boardWidths, boardCount, lamellaCount, boardFrom, claddingAt, lamellaeIn, arraysOf, recordLamellae, panelOf};
 
 // c, the number of boards.
 pub fn board_count(s: &[u8]) -> usize
@@ -62,6 +56,7 @@ fn cladding_at(c: usize, t: &[u8]) -> Cladding
 // The first n lamellae of the lamella bytes.
 fn lamellae_in(u: &[u8], n: usize) -> Lamellae
     requires { ⌜ n ≤ 9 ⌝ }
+    ensures { λ r. ⌜ r ≡ arraysOf (lamellaeIn (now (u .entry)) n) ⌝ }
 {
     let mut directions = [0u8; 9];
     let mut thicknesses = [0u16; 9];
@@ -78,7 +73,9 @@ fn lamellae_in(u: &[u8], n: usize) -> Lamellae
 }
 
 // The lamella bytes are the part of the record that begins after the last board and the byte n.
-fn lamellae_of(s: &[u8]) -> Lamellae {
+fn lamellae_of(s: &[u8]) -> Lamellae
+    ensures { λ r. ⌜ r ≡ arraysOf (recordLamellae (now (s .entry))) ⌝ }
+{
     let from = 18 + 4 * board_count(s);
     let n = lesser(lamella_count(s), 9);
     lamellae_in(part_from(s, from), n)

@@ -6,15 +6,15 @@ use panel::Board;
 use panel::Cladding;
 use panel::Panel;
 ghost use mathlib.Core.Path.{_≡_};
-ghost use mathlib.Core.List.{[], _∷_};
+ghost use mathlib.Core.List.{[], _∷_, _++_};
 ghost use Prim.Native.Nat.{_+_, _*_, _≤_};
 ghost use lib.ListN.{length};
 ghost use lib.Seq.{sets};
 ghost use Rattle.numbers.specs.Bytes.{join};
-ghost use Rattle.panel.specs.Lamellae.{lamellaeOf};
-ghost use Rattle.record.specs.Layouts.{boardWidths, headWidths, boardsOf, boardBytes, lamellaBytes, recordLength, encode};
+ghost use Rattle.panel.specs.Lamellae.{lamellae, lamellaeOf};
+ghost use Rattle.record.specs.Layouts.{frontWidths, headWidths, boardWidths, countWidths, lamellaWidths, boardsOf, boardBytes, lamellaBytes, recordLength, encode};
 
-pub fn boards_of(c: Cladding) -> u8
+fn boards_of(c: Cladding) -> usize
     ensures { λ r. ⌜ (r ≡ length (boardsOf c)) × (r ≤ 2) ⌝ }
 {
     match c {
@@ -33,6 +33,14 @@ fn put_board(out: &mut [u8], at: usize, b: Board)
     put8(out, at + 3, b.joint);
 }
 
+fn put_two(out: &mut [u8], at: usize, outer: Board, inner: Board)
+    requires { ⌜ at + 8 ≤ length (now out) ⌝ }
+    ensures { λ _. ⌜ now (out .exit) ≡ sets (now (out .entry)) at (boardBytes (outer ∷ inner ∷ [])) ⌝ }
+{
+    put_board(out, at, outer);
+    put_board(out, at + 4, inner);
+}
+
 fn put_cladding(out: &mut [u8], at: usize, c: Cladding)
     requires { ⌜ at + 4 * length (boardsOf c) ≤ length (now out) ⌝ }
     ensures { λ _. ⌜ now (out .exit) ≡ sets (now (out .entry)) at (boardBytes (boardsOf c)) ⌝ }
@@ -40,11 +48,16 @@ fn put_cladding(out: &mut [u8], at: usize, c: Cladding)
     match c {
         Cladding::Unclad => {}
         Cladding::One(b) => put_board(out, at, b),
-        Cladding::Two(outer, inner) => {
-            put_board(out, at, outer);
-            put_board(out, at + 4, inner);
-        }
+        Cladding::Two(outer, inner) => put_two(out, at, outer, inner),
     }
+}
+
+fn put_lamella(out: &mut [u8], at: usize, direction: u8, thickness: u16)
+    requires { ⌜ at + 3 ≤ length (now out) ⌝ }
+    ensures { λ _. ⌜ now (out .exit) ≡ sets (now (out .entry)) at (join lamellaWidths (direction ∷ thickness ∷ [])) ⌝ }
+{
+    put8(out, at, direction);
+    put16(out, at + 1, thickness);
 }
 
 fn put_lamellae(out: &mut [u8], at: usize, directions: [u8; 9], thicknesses: [u16; 9], count: usize)
@@ -53,8 +66,7 @@ fn put_lamellae(out: &mut [u8], at: usize, directions: [u8; 9], thicknesses: [u1
 {
     let mut i = 0;
     while i < count {
-        put8(out, at + 3 * i, directions[i]);
-        put16(out, at + 3 * i + 1, thicknesses[i]);
+        put_lamella(out, at + 3 * i, directions[i], thicknesses[i]);
         i += 1;
     }
 }
@@ -72,16 +84,43 @@ fn put_head(out: &mut [u8], at: usize, p: Panel, boards: u8)
     put32(out, at + 10, p.failure_time);
 }
 
-pub fn put_record(out: &mut [u8], p: Panel, length: u16) {
-    let c = p.cladding;
-    let boards = boards_of(c);
-    let from = 18 + 4 * (boards as usize);
-    put16(out, 0, length);
+fn put_front(out: &mut [u8], bytes: u16)
+    requires { ⌜ 3 ≤ length (now out) ⌝ }
+    ensures { λ _. ⌜ now (out .exit) ≡ sets (now (out .entry)) 0 (join frontWidths (bytes ∷ 1 ∷ [])) ⌝ }
+{
+    put16(out, 0, bytes);
     put8(out, 2, 1);
-    put_head(out, 3, p, boards);
-    put_cladding(out, 17, c);
-    put8(out, from - 1, p.count as u8);
+}
+
+// The number n of lamellae, then each lamella.
+fn put_tail(out: &mut [u8], at: usize, p: Panel)
+    requires { ⌜ (p .count ≤ 9) × (at + 1 + 3 * p .count ≤ length (now out)) ⌝ }
+    ensures { λ _. ⌜ now (out .exit) ≡ sets (now (out .entry)) at (join countWidths (p .count ∷ []) ++ lamellaBytes (lamellae p)) ⌝ }
+{
     let directions = p.directions;
     let thicknesses = p.thicknesses;
-    put_lamellae(out, from, directions, thicknesses, p.count);
+    put8(out, at, p.count as u8);
+    put_lamellae(out, at + 1, directions, thicknesses, p.count);
+}
+
+// The length of a panel's record. No open call: the count must be at most 9.
+pub fn record_length(p: Panel) -> usize
+    requires { ⌜ p .count ≤ 9 ⌝ }
+    ensures { λ r. ⌜ (r ≡ recordLength p) × (r ≤ 53) ⌝ }
+{
+    let c = p.cladding;
+    18 + 4 * boards_of(c) + 3 * p.count
+}
+
+// Stores a panel's record at the start of the space. No open call: the count must be at most 9, and the record must fit.
+pub fn put_record(out: &mut [u8], p: Panel)
+    requires { ⌜ (p .count ≤ 9) × (recordLength p ≤ length (now out)) ⌝ }
+    ensures { λ _. ⌜ now (out .exit) ≡ sets (now (out .entry)) 0 (encode p) ⌝ }
+{
+    let c = p.cladding;
+    let boards = boards_of(c);
+    put_front(out, record_length(p) as u16);
+    put_head(out, 3, p, boards as u8);
+    put_cladding(out, 17, c);
+    put_tail(out, 17 + 4 * boards, p);
 }

@@ -37,20 +37,11 @@ unfolding buildAnswer
 returns-3 c =
     let a = c .before .before .before .before .before .before .args .a in
     let b = c .before .before .before .before .before .before .args .b in
-    ap sameIf (sym (c .if3 .taken) ∙ c .before .is-same-build .ensures)
-    ∙ answered (panelRefusal b) Refused (sameIf (sameBuild a b)) (sym (c .before .before .before .panel-refusal2 .ensures) ∙ c .before .before .if2 .left)
-    ∙ answered (panelRefusal a) Refused (answer (panelRefusal b) Refused (sameIf (sameBuild a b))) (sym (c .before .before .before .before .before .panel-refusal .ensures) ∙ c .before .before .before .before .if1 .left)
-
-returns-4 : tie.Need-returns-4
-unfolding buildAnswer
-returns-4 c =
-    let a = c .before .before .before .before .before .before .args .a in
-    let b = c .before .before .before .before .before .before .args .b in
-    ap sameIf (sym (c .if3 .left) ∙ c .before .is-same-build .ensures)
+    c .same-if .ensures ∙ ap sameIf (c .before .is-same-build .ensures)
     ∙ answered (panelRefusal b) Refused (sameIf (sameBuild a b)) (sym (c .before .before .before .panel-refusal2 .ensures) ∙ c .before .before .if2 .left)
     ∙ answered (panelRefusal a) Refused (answer (panelRefusal b) Refused (sameIf (sameBuild a b))) (sym (c .before .before .before .before .before .panel-refusal .ensures) ∙ c .before .before .before .before .if1 .left)
 
 pub same-build-spec : {M : Type 1} → statement M
 same-build-spec =
     tie.close
-    (tie.spec (λ c κs. search needs) returns (λ c κs. search needs) returns-2 is-same-build-requires returns-3 returns-4)
+    (tie.spec (λ c κs. search needs) returns (λ c κs. search needs) returns-2 is-same-build-requires (λ c κs. search needs) returns-3)

@@ -1,0 +1,13 @@
+-- `record::lines::bad_version` meets its contract by what `get8` says.
+-- Assumes nothing.
+use borrow.Author.Needs.{needs}
+use Rattle.record.proofs.lines.bad_version.Statement.{statement}
+use Rattle.record.proofs.lines.bad_version.Tie as tie
+
+returns : tie.Need-returns
+returns c = cc
+
+pub bad-version-spec : {M : Type 1} → statement M
+bad-version-spec =
+    tie.close
+    (tie.spec (λ c κs. search needs) returns)

@@ -1,0 +1,18 @@
+-- `record::reader::lamella_count` meets its contract: the byte after the boards.
+-- Assumes nothing.
+use Prim.Native.Nat.{ℕ, _+_, _*_}
+use borrow.Author.Needs.{needs}
+use denote.Ref.{now}
+use lib.ListN.{getD}
+use mathlib.Core.Path.{ap, _∙_}
+use Rattle.record.proofs.reader.lamella_count.Statement.{statement}
+use Rattle.record.proofs.reader.lamella_count.Tie as tie
+
+returns : tie.Need-returns
+returns c =
+    (c .wide .ensures .0 ∙ c .before .get8 .ensures ∙ ap (λ (k : ℕ). getD (now (c .before .before .before .before .args .s)) (17 + 4 * k) 0) (c .before .before .board-count .ensures .0), search needs)
+
+pub lamella-count-spec : {M : Type 1} → statement M
+lamella-count-spec =
+    tie.close
+    (tie.spec (λ c κs. search needs) (λ c. search needs) (λ c. search needs) (λ c κs. search needs) (λ c κs. search needs) (λ c. search needs) returns)

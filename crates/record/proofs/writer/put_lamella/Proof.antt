@@ -1,0 +1,23 @@
+-- `record::writer::put_lamella` meets its contract: the second store begins where the first ends.
+-- Assumes nothing.
+use Prim.Native.Nat.{_+_}
+use Rattle.numbers.proofs.Lists.{then-put}
+use Rattle.numbers.specs.Bytes.{bytes}
+use borrow.Author.Needs.{needs}
+use denote.Ref.{now}
+use mathlib.Core.Path.{refl}
+use Rattle.record.proofs.writer.put_lamella.Statement.{statement}
+use Rattle.record.proofs.writer.put_lamella.Tie as tie
+
+returns : tie.Need-returns
+returns c =
+    let l = now (c .before .before .before .before .before .before .before .before .before .args .out) in
+    let at = c .before .before .before .before .before .before .before .before .before .args .at in
+    then-put l (c .before .before .before .before .before .before .put8 .last .0) (c .before .before .put16 .last .0) at (bytes 1 (c .before .before .before .before .before .before .before .before .before .args .direction)) (at + 1) (bytes 2 (c .before .before .before .before .before .before .before .before .before .args .thickness))
+    (c .before .before .before .before .before .before .put8 .ensures)
+    refl (c .before .before .put16 .ensures)
+
+pub put-lamella-spec : {M : Type 1} → statement M
+put-lamella-spec =
+    tie.close
+    (tie.spec (λ c κs. search needs) (λ c. search needs) (λ c κs. search needs) (λ c. search needs) returns)

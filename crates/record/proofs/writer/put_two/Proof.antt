@@ -1,0 +1,28 @@
+-- `record::writer::put_two` meets its contract: the second board begins where the first ends.
+-- Assumes nothing.
+use Prim.Native.Nat.{ℕ, _+_}
+use Rattle.numbers.proofs.Lists.{then-put}
+use Rattle.numbers.specs.Bytes.{join}
+use Rattle.panel.specs.declared.Board.{Board}
+use Rattle.record.specs.Layouts.{boardWidths, boardBytes}
+use borrow.Author.Needs.{needs}
+use denote.Ref.{now}
+use mathlib.Core.List.{[], _∷_, List}
+use mathlib.Core.Path.{refl}
+use Rattle.record.proofs.writer.put_two.Statement.{statement}
+use Rattle.record.proofs.writer.put_two.Tie as tie
+
+returns : tie.Need-returns
+unfolding boardBytes
+returns c =
+    let l = now (c .before .before .before .before .before .before .before .before .before .args .out) in
+    let at = c .before .before .before .before .before .before .before .before .before .args .at in
+    let bytesOf : Board → List ℕ = λ b. join boardWidths (b .kind ∷ b .thickness ∷ b .joint ∷ []) in
+    then-put l (c .before .before .before .before .before .before .put-board .last .0) (c .before .before .put-board2 .last .0) at (bytesOf (c .before .before .before .before .before .before .before .before .before .args .outer)) (at + 4) (bytesOf (c .before .before .before .before .before .before .before .before .before .args .inner))
+    (c .before .before .before .before .before .before .put-board .ensures)
+    refl (c .before .before .put-board2 .ensures)
+
+pub put-two-spec : {M : Type 1} → statement M
+put-two-spec =
+    tie.close
+    (tie.spec (λ c κs. search needs) (λ c. search needs) (λ c κs. search needs) (λ c. search needs) returns)
