@@ -1,2 +1,3 @@
-pub mod Lists
 pub mod Digits
+pub mod FirstValues
+pub mod Lists

@@ -1,10 +1,11 @@
 -- Document 01, "The panel record": the lamellae of a panel, and its unused places.
-use Prim.Native.Nat.{ℕ, zero, suc, _+_, _-_, _<_}
+use Prim.Native.Nat.{ℕ, _+_, _-_, _<_}
 use mathlib.Core.Path.{_≡_}
 use mathlib.Core.List.{List, [], _∷_, _++_, map}
 use mathlib.Core.Bool.{Bool}
 use lib.ListN.{length, getD, replicate}
 use lib.Dec.{eqb}
+use Rattle.numbers.specs.Firsts.{firsts}
 use Rattle.panel.specs.declared.Panel.{Panel}
 
 -- "per lamella, from the exposed face: 0 across or 1 along (1), thickness in tenths of mm (2)"
@@ -17,8 +18,8 @@ lamella g t = record { direction = g; thickness = t }
 
 -- the first n lamellae of a direction and a thickness array
 unfoldable pub lamellaeOf : List ℕ → List ℕ → ℕ → List Lamella
-lamellaeOf gs ts zero = []
-lamellaeOf gs ts (suc i) = lamellaeOf gs ts i ++ (lamella (getD gs i 0) (getD ts i 0) ∷ [])
+unfolding firsts
+lamellaeOf gs ts n = firsts (λ (i : ℕ). lamella (getD gs i 0) (getD ts i 0)) n
 
 -- a panel's lamellae: every definition about a panel sees its arrays through this one, so that
 -- "unused places are ignored by every call that is given a panel"

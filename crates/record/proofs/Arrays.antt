@@ -1,22 +1,19 @@
 -- Arrays of nine that are filled lamella by lamella.
-use Prim.Native.Nat.{ℕ, zero, suc, _+_, _-_, _*_, _<_, _≤_}
-use mathlib.Core.Path.{_≡_, refl, sym, ap, ap₂, _∙_}
+use Prim.Native.Nat.{ℕ, suc, _+_, _-_, _*_, _<_}
+use mathlib.Core.Path.{_≡_, sym, ap, _∙_}
 use mathlib.Core.List.{List, [], _∷_, _++_, map, map-append, append-assoc}
 use native.Mathlib.Omega.{arith}
 use native.Mathlib.Numerals.{add-one}
 use lib.ListN.{length, set, replicate, length-append, length-map}
 use lib.Seq.{set-at}
-use Rattle.numbers.specs.Bytes.{number, fields}
+use Rattle.numbers.specs.Bytes.{fields}
+use Rattle.numbers.proofs.FirstValues.{length-firsts}
 use Rattle.panel.specs.Lamellae.{Lamella, nine}
 use Rattle.record.specs.Layouts.{lamellaWidths, lamellaFrom, lamellaeIn}
 
 pub length-lamellaeIn : (u : List ℕ) (n : ℕ) → length (lamellaeIn u n) ≡ n
 unfolding lamellaeIn
-length-lamellaeIn u zero = refl
-length-lamellaeIn u (suc n) =
-    length-append (lamellaeIn u n) (lamellaFrom (fields lamellaWidths u (3 * n)) ∷ [])
-    ∙ ap (λ (k : ℕ). k + 1) (length-lamellaeIn u n)
-    ∙ add-one n
+length-lamellaeIn u n = length-firsts (λ (i : ℕ). lamellaFrom (fields lamellaWidths u (3 * i))) n
 
 -- the next place of an array of nine
 pub nine-more : (xs : List ℕ) (i x : ℕ) → length xs ≡ i → i < 9 → set (nine xs) i x ≡ nine (xs ++ (x ∷ []))

@@ -3,7 +3,8 @@
 use Prim.Native.Nat.{ℕ, zero, suc, _+_, _*_, min}
 use mathlib.Core.List.{List, [], _∷_, _++_, map}
 use lib.ListN.{length, getD, drop}
-use Rattle.numbers.specs.Bytes.{number, fields, join}
+use Rattle.numbers.specs.Firsts.{firsts}
+use Rattle.numbers.specs.Bytes.{fields, join}
 use Rattle.panel.specs.declared.Board.{Board}
 use Rattle.panel.specs.declared.Cladding.{Cladding}
 use Rattle.panel.specs.declared.Cladding.the-variants.{Unclad, One, Two}
@@ -63,10 +64,10 @@ claddingAt (suc (suc c)) t = Two (boardFrom (fields boardWidths t 14)) (boardFro
 abbrev pub lamellaFrom : List ℕ → Lamella
 lamellaFrom vs = record { direction = getD vs 0 0; thickness = getD vs 1 0 }
 
--- the first n lamellae of the lamella bytes
+-- the first n lamellae of the lamella bytes, each in three
 unfoldable pub lamellaeIn : List ℕ → ℕ → List Lamella
-lamellaeIn u zero = []
-lamellaeIn u (suc i) = lamellaeIn u i ++ (lamellaFrom (fields lamellaWidths u (3 * i)) ∷ [])
+unfolding firsts
+lamellaeIn u n = firsts (λ (i : ℕ). lamellaFrom (fields lamellaWidths u (3 * i))) n
 
 -- the lamellae of a record, of which an array of nine holds the first nine; more are refused by line 10
 abbrev pub recordLamellae : List ℕ → List Lamella
