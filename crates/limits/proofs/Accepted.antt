@@ -7,7 +7,9 @@ use native.Mathlib.Omega.{arith}
 use native.Mathlib.Decide.{decLt}
 use borrow.Author.Tests.{ltb-false, not-false, not-true}
 use lib.ListN.{getD}
-use lib.Dec.{ltb}
+use lib.Dec.{ltb, eqb}
+use mathlib.Core.Logic.{_↔_}
+use native.Mathlib.Nat.{le-trans, le-add-right}
 use Rattle.numbers.specs.Choice.{pick, outside}
 use Rattle.panel.specs.declared.Board.{Board}
 use Rattle.panel.specs.declared.Cladding.{Cladding}
@@ -19,7 +21,7 @@ use Rattle.section.specs.Tests.{SectionFits, depthPasses}
 use Rattle.limits.specs.Lines.{Line, line, NoneFits}
 use Rattle.limits.specs.Causes.{badTypes, badBoard, badBoards, badLamella, badLamellae, noneAlong, badFailureTime, badCount, some}
 use Rattle.limits.specs.Refusals.{headLines, boardLines, lamellaLines, panelLines, panelRefusal, Loaded}
-use Rattle.limits.proofs.FirstLine.{first-none}
+use Rattle.limits.proofs.FirstLine.{First, accepted-iff, refusal-first}
 use Rattle.limits.proofs.Tests.{some-more}
 
 -- Tests that fail
@@ -45,13 +47,13 @@ middleLines p = line 11 (badLamellae p) ∷ line 12 (noneAlong p) ∷ []
 
 -- what line 5 leaves of the load, and line 10 of the count
 pub loaded-by :
-  (p : Panel) → NoneFits (headLines p) → badCount (p .count) ≡ false → Loaded p
+    (p : Panel) → NoneFits (headLines p) → badCount (p .count) ≡ false → Loaded p
 loaded-by p h e =
     let load = or-none (outside 1 400 (p .strength)) (ltb 1000000 (p .moment)) (h .1 .1 .0) in
     record {
       strength = in-range 1 400 (p .strength) (load .0) .1;
       moment = ltb-false 1000000 (p .moment) (load .1);
-      count = in-range 1 9 (p .count) e .1
+      count = in-range 1 9 (p .count) e .1;
     }
 
 pub loaded : (p : Panel) → NoneFits (upperLines p) → Loaded p
@@ -64,15 +66,22 @@ section-fits p l h =
       strength = l .strength;
       moment = l .moment;
       count = l .count;
-      thickness = ltb-false 4000 (thickness (lamellae p)) (or-none (some badLamella (lamellae p)) (ltb 4000 (thickness (lamellae p))) (h .0) .1)
+      thickness = ltb-false 4000 (thickness (lamellae p)) (or-none (some badLamella (lamellae p)) (ltb 4000 (thickness (lamellae p))) (h .0) .1);
     }
 
 -- Accepted panels
 
--- no line of an accepted panel fits
-pub none-fits : (p : Panel) → panelRefusal p ≡ 0 → NoneFits (panelLines p)
+-- "the first refusal .. that fits": a panel is accepted exactly when no line fits, and a refusal is the first line that does
+pub panel-accepted-iff : (p : Panel) → (panelRefusal p ≡ 0) ↔ NoneFits (panelLines p)
 unfolding panelRefusal
-none-fits p e = first-none (panelLines p) tt e
+panel-accepted-iff p = accepted-iff (panelLines p) tt
+
+pub panel-first : (p : Panel) → (panelRefusal p ≡ 0 → ⊥) → First (panelLines p) (panelRefusal p)
+unfolding panelRefusal
+panel-first p ne = refusal-first (panelLines p) ne
+
+pub none-fits : (p : Panel) → panelRefusal p ≡ 0 → NoneFits (panelLines p)
+none-fits p e = panel-accepted-iff p .0 e
 
 pub accepted-loaded : (p : Panel) → panelRefusal p ≡ 0 → Loaded p
 accepted-loaded p e =
@@ -87,3 +96,34 @@ accepted-fits p e =
 -- an accepted panel passes at depth 0
 pub accepted-passes : (p : Panel) → panelRefusal p ≡ 0 → depthPasses p 0 ≡ true
 accepted-passes p e = not-false (depthPasses p 0) (none-fits p e .1 .1 .1 .1 .1 .1 .1 .1 .1 .0)
+
+-- The start of charring
+
+-- the difference in t_ch
+abbrev pub StartWhole : ℕ → Cladding → Type 0
+StartWhole gap Unclad = Unit
+StartWhole gap (One b) = gapLoss gap ≤ 280 * b .thickness
+StartWhole gap (Two outer inner) = gapLoss gap ≤ 280 * outer .thickness + innerGain inner * inner .thickness
+
+loss-most : (gap : ℕ) → gapLoss gap ≤ 23000
+loss-most gap = go (eqb gap 1)
+  where
+    go : (t : Bool) → pick t 23000 14000 ≤ 23000
+    go true = omega arith
+    go false = omega arith
+
+board-least : (b : Board) → badBoard b ≡ false → 90 ≤ b .thickness
+board-least b e =
+    in-range 90 250 (b .thickness) (or-none (outside 90 250 (b .thickness)) (outside 1 100 (b .joint)) e .0) .0
+
+start-of : (gap : ℕ) (c : Cladding) → badBoards c ≡ false → StartWhole gap c
+start-of gap Unclad e = tt
+start-of gap (One b) e = omega (arith, loss-most gap, board-least b e)
+start-of gap (Two outer inner) e =
+    let first : 90 ≤ outer .thickness = board-least outer (or-none (badBoard outer) (badBoard inner) e .0) in
+    let loss : gapLoss gap ≤ 280 * outer .thickness = omega (arith, loss-most gap) in
+    le-trans loss (le-add-right (280 * outer .thickness) (innerGain inner * inner .thickness))
+
+-- t_ch of an accepted panel is never cut off at 0
+pub start-whole : (p : Panel) → panelRefusal p ≡ 0 → StartWhole (p .gap) (p .cladding)
+start-whole p e = start-of (p .gap) (p .cladding) (none-fits p e .1 .1 .1 .1 .0)

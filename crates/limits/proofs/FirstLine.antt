@@ -31,6 +31,11 @@ pub none-first : (ls : List Line) → NoneFits ls → (below : ℕ) → firstOr 
 none-first [] h below = refl
 none-first (l ∷ ls) h below = rw (h .0) (none-first ls (h .1) below)
 
+-- a table of which nothing fits has no part that fits
+pub none-left : (xs ys : List Line) → NoneFits (xs ++ ys) → NoneFits xs
+none-left [] ys h = tt
+none-left (x ∷ xs) ys h = (h .0, none-left xs ys (h .1))
+
 -- a table refuses nothing exactly when no line of it fits
 pub accepted-iff : (ls : List Line) → T (numbered ls) → (refusal ls ≡ 0) ↔ NoneFits ls
 accepted-iff ls t = (first-none ls t, λ h. none-first ls h 0)
@@ -41,10 +46,10 @@ first-some [] below ne = absurd (ne refl)
 first-some (l ∷ ls) below ne = go (l .fits) (first-some ls below) ne
   where
     go :
-      (c : Bool)
-      → ((refusal ls ≡ 0 → ⊥) → firstOr ls below ≡ refusal ls)
-      → (pick c (l .number) (refusal ls) ≡ 0 → ⊥)
-      → pick c (l .number) (firstOr ls below) ≡ pick c (l .number) (refusal ls)
+        (c : Bool)
+        → ((refusal ls ≡ 0 → ⊥) → firstOr ls below ≡ refusal ls)
+        → (pick c (l .number) (refusal ls) ≡ 0 → ⊥)
+        → pick c (l .number) (firstOr ls below) ≡ pick c (l .number) (refusal ls)
     go true rest k = refl
     go false rest k = rest k
 
@@ -63,11 +68,11 @@ refusal-first [] ne = absurd (ne refl)
 refusal-first (l ∷ ls) ne = go (l .fits) refl (refusal-first ls) ne
   where
     go :
-      (c : Bool)
-      → l .fits ≡ c
-      → ((refusal ls ≡ 0 → ⊥) → First ls (refusal ls))
-      → (pick c (l .number) (refusal ls) ≡ 0 → ⊥)
-      → First (l ∷ ls) (pick c (l .number) (refusal ls))
+        (c : Bool)
+        → l .fits ≡ c
+        → ((refusal ls ≡ 0 → ⊥) → First ls (refusal ls))
+        → (pick c (l .number) (refusal ls) ≡ 0 → ⊥)
+        → First (l ∷ ls) (pick c (l .number) (refusal ls))
     go true e rest k = record { before = []; this = l; after = ls; split = refl; none = tt; fits = e; number = refl }
     go false e rest k =
         let f = rest k in
@@ -78,7 +83,7 @@ refusal-first (l ∷ ls) ne = go (l .fits) refl (refusal-first ls) ne
           split = ap (λ (xs : List Line). l ∷ xs) (f .split);
           none = (e, f .none);
           fits = f .fits;
-          number = f .number
+          number = f .number;
         }
 
 -- Answers

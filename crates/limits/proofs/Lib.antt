@@ -1,3 +1,4 @@
 pub mod Accepted
 pub mod FirstLine
 pub mod Tests
+pub mod Unused

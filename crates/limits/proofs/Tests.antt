@@ -37,8 +37,8 @@ and-false false = refl
 
 -- two runs of equal length with one lamella more: the former agree, and the last
 pub sameLamellae-more :
-  (xs ys : List Lamella) (x y : Lamella) → length xs ≡ length ys
-  → sameLamellae (xs ++ (x ∷ [])) (ys ++ (y ∷ [])) ≡ (sameLamellae xs ys && sameLamella x y)
+    (xs ys : List Lamella) (x y : Lamella) → length xs ≡ length ys
+    → sameLamellae (xs ++ (x ∷ [])) (ys ++ (y ∷ [])) ≡ (sameLamellae xs ys && sameLamella x y)
 unfolding sameLamellae
 sameLamellae-more [] [] x y e = and-true (sameLamella x y)
 sameLamellae-more [] (b ∷ ys) x y e = absurd (let z : ⊥ = omega arith in z)

@@ -1,17 +1,14 @@
 -- Big-endian numbers, any width: reading what was written, and writing what was read.
 use Prim.Native.Nat.{ℕ, zero, suc, _+_, _*_, _/_, _%_, _^_, _<_, _≤_}
 use mathlib.Core.Path.{_≡_, refl, sym, ap, ap₂, subst, _∙_}
-use mathlib.Core.List.{List, [], _∷_}
-use native.Mathlib.Numerals.{add-one}
+use mathlib.Core.List.{List, [], _∷_, _++_}
 use native.Mathlib.Nat.{div-add-mod', pow-succ'}
 use lib.Arith.{digits-div, digits-mod, digits-lt}
 use lib.ListN.{getD}
-use Rattle.numbers.specs.Bytes.{number, bytes}
+use Rattle.numbers.specs.Bytes.{number, bytes, fields, join}
+use Rattle.numbers.proofs.Places.{places, getD-cons, places-append, span}
 
 -- a byte in front moves every place up by one
-getD-cons : (x : ℕ) (l : List ℕ) (at : ℕ) → getD (x ∷ l) (at + 1) 0 ≡ getD l at 0
-getD-cons x l at = rw add-one
-
 pub number-cons : (x : ℕ) (l : List ℕ) (at w : ℕ) → number (x ∷ l) (at + 1) w ≡ number l at w
 number-cons x l at zero = refl
 number-cons x l at (suc zero) = getD-cons x l at
@@ -26,11 +23,6 @@ number-bytes (suc w) v =
     (number-cons (v / 256 ^ suc w) (bytes (suc w) (v % 256 ^ suc w)) 0 (suc w) ∙ number-bytes w (v % 256 ^ suc w))
     ∙ div-add-mod' v (256 ^ suc w)
 
--- the bytes of a list from a place on; past the end, 0
-unfoldable pub places : List ℕ → ℕ → ℕ → List ℕ
-places b at zero = []
-places b at (suc w) = getD b at 0 ∷ places b (at + 1) w
-
 -- every place of a list holds a byte
 abbrev pub AreBytes : List ℕ → Type 0
 AreBytes b = (i : ℕ) → getD b i 0 < 256
@@ -43,11 +35,19 @@ number-below b h at (suc w) =
     (digits-lt (h at) (number-below b h (at + 1) w))
 
 -- the bytes of the number read are the bytes that stood there
-pub bytes-number : (b : List ℕ) → AreBytes b → (at w : ℕ) → bytes (suc w) (number b at (suc w)) ≡ places b at (suc w)
+pub bytes-number : (b : List ℕ) → AreBytes b → (at w : ℕ) → bytes w (number b at w) ≡ places b at w
 unfolding places
 bytes-number b h at zero = refl
-bytes-number b h at (suc w) =
+bytes-number b h at (suc zero) = refl
+bytes-number b h at (suc (suc w)) =
     let r = number b (at + 1) (suc w) in
     let below : r < 256 ^ suc w = number-below b h (at + 1) w in
     ap₂ (λ (x : ℕ) (xs : List ℕ). x ∷ xs) (digits-div (getD b at 0) below)
-    (ap (bytes (suc w)) (digits-mod (getD b at 0) below) ∙ bytes-number b h (at + 1) w)
+    (ap (bytes (suc w)) (digits-mod (getD b at 0) below) ∙ bytes-number b h (at + 1) (suc w))
+
+-- the same for several numbers in a row
+pub join-fields : (ws b : List ℕ) → AreBytes b → (at : ℕ) → join ws (fields ws b at) ≡ places b at (span ws)
+unfolding places span
+join-fields [] b h at = refl
+join-fields (w ∷ ws) b h at =
+    ap₂ (λ (xs ys : List ℕ). xs ++ ys) (bytes-number b h at w) (join-fields ws b h (at + w)) ∙ sym (places-append b at w (span ws))

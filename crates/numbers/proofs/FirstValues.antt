@@ -40,5 +40,5 @@ module _ {A : Type 0} where
   firsts-getD f l d e =
       ext-getD d (firsts f (length l)) l (length-firsts f (length l))
       (λ i h.
-          let k : i < length l = omega (arith, length-firsts f (length l)) in
-          getD-firsts f (length l) i d k ∙ e i k)
+      let k : i < length l = omega (arith, length-firsts f (length l)) in
+      getD-firsts f (length l) i d k ∙ e i k)

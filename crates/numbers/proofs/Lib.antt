@@ -1,3 +1,4 @@
 pub mod Digits
 pub mod FirstValues
 pub mod Lists
+pub mod Places

@@ -29,6 +29,6 @@ sets-then l i (v ∷ vs) j ws e = sets-then (set l i v) (suc i) vs j ws (e ∙ a
 
 -- the same for lists that come one after the other: l₁ is l with stores from i on, l₂ is l₁ with stores from where these end
 pub then-put :
-  (l l₁ l₂ : List ℕ) (i : ℕ) (vs : List ℕ) (j : ℕ) (ws : List ℕ)
-  → l₁ ≡ sets l i vs → j ≡ i + length vs → l₂ ≡ sets l₁ j ws → l₂ ≡ sets l i (vs ++ ws)
+    (l l₁ l₂ : List ℕ) (i : ℕ) (vs : List ℕ) (j : ℕ) (ws : List ℕ)
+    → l₁ ≡ sets l i vs → j ≡ i + length vs → l₂ ≡ sets l₁ j ws → l₂ ≡ sets l i (vs ++ ws)
 then-put l l₁ l₂ i vs j ws e₁ e e₂ = e₂ ∙ ap (λ (r : List ℕ). sets r j ws) e₁ ∙ sets-then l i vs j ws e

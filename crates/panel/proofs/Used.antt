@@ -4,7 +4,7 @@ use mathlib.Core.Path.{_≡_, refl, sym, ap, ap₂, _∙_}
 use mathlib.Core.List.{List, [], _∷_, _++_, map}
 use native.Mathlib.Omega.{arith}
 use lib.ListN.{length, getD, length-map, List·getD-append, List·getD-map, replicate}
-use Rattle.numbers.proofs.FirstValues.{length-firsts, firsts-agree, firsts-getD}
+use Rattle.numbers.proofs.FirstValues.{length-firsts, firsts-agree, getD-firsts, firsts-getD}
 use Rattle.panel.specs.declared.Panel.{Panel}
 use Rattle.panel.specs.Lamellae.{Lamella, lamella, lamellaeOf, lamellae, nine, cleared, thickness, SameUsed}
 
@@ -24,7 +24,7 @@ same-lamellae p q h =
 
 -- an array of nine that was filled from lamellae holds their numbers
 getD-nine :
-  (f : Lamella → ℕ) (ls : List Lamella) (i : ℕ) (d : Lamella) → f d ≡ 0 → i < length ls → getD (nine (map f ls)) i 0 ≡ f (getD ls i d)
+    (f : Lamella → ℕ) (ls : List Lamella) (i : ℕ) (d : Lamella) → f d ≡ 0 → i < length ls → getD (nine (map f ls)) i 0 ≡ f (getD ls i d)
 getD-nine f ls i d e h =
     List·getD-append (map f ls) (replicate (9 - length (map f ls)) 0) 0 i (simp length-map h)
     ∙ ap (getD (map f ls) i) (sym e)
@@ -32,21 +32,47 @@ getD-nine f ls i d e h =
 
 -- arrays filled from lamellae hold these lamellae
 pub lamellaeOf-nine :
-  (ls : List Lamella)
-  → lamellaeOf (nine (map (λ (l : Lamella). l .direction) ls)) (nine (map (λ (l : Lamella). l .thickness) ls)) (length ls) ≡ ls
+    (ls : List Lamella)
+    → lamellaeOf (nine (map (λ (l : Lamella). l .direction) ls)) (nine (map (λ (l : Lamella). l .thickness) ls)) (length ls) ≡ ls
 unfolding lamellaeOf
 lamellaeOf-nine ls =
     firsts-getD (λ (i : ℕ). lamella (getD (nine (map (λ (l : Lamella). l .direction) ls)) i 0) (getD (nine (map (λ (l : Lamella). l .thickness) ls)) i 0))
     ls (lamella 0 0)
     (λ i h.
-        ap₂ lamella (getD-nine (λ (l : Lamella). l .direction) ls i (lamella 0 0) refl h)
-        (getD-nine (λ (l : Lamella). l .thickness) ls i (lamella 0 0) refl h))
+    ap₂ lamella (getD-nine (λ (l : Lamella). l .direction) ls i (lamella 0 0) refl h)
+    (getD-nine (λ (l : Lamella). l .thickness) ls i (lamella 0 0) refl h))
 
 -- clearing the unused places of a panel leaves its lamellae
 pub cleared-lamellae : (p : Panel) → lamellae (cleared p) ≡ lamellae p
 cleared-lamellae p =
     ap (lamellaeOf (cleared p .directions) (cleared p .thicknesses)) (sym (length-lamellaeOf (p .directions) (p .thicknesses) (p .count)))
     ∙ lamellaeOf-nine (lamellae p)
+
+-- a panel and the same with its unused places 0 differ at most there
+pub cleared-same : (p : Panel) → SameUsed p (cleared p)
+unfolding lamellaeOf
+cleared-same p =
+    record {
+      bond = refl;
+      rate = refl;
+      gap = refl;
+      strength = refl;
+      moment = refl;
+      failureTime = refl;
+      cladding = refl;
+      count = refl;
+      directions = λ i h. sym (place (λ (l : Lamella). l .direction) i refl h);
+      thicknesses = λ i h. sym (place (λ (l : Lamella). l .thickness) i refl h);
+    }
+  where
+    at : ℕ → Lamella
+    at i = lamella (getD (p .directions) i 0) (getD (p .thicknesses) i 0)
+
+    place :
+        (f : Lamella → ℕ) (i : ℕ) → f (lamella 0 0) ≡ 0 → i < p .count → getD (nine (map f (lamellae p))) i 0 ≡ f (at i)
+    place f i e h =
+        getD-nine f (lamellae p) i (lamella 0 0) e (omega (arith, length-lamellaeOf (p .directions) (p .thicknesses) (p .count)))
+        ∙ ap f (getD-firsts at (p .count) i (lamella 0 0) h)
 
 -- the thickness of one lamella more
 pub thickness-more : (ls : List Lamella) (l : Lamella) → thickness (ls ++ (l ∷ [])) ≡ thickness ls + l .thickness

@@ -26,8 +26,8 @@ nine-more xs i x e h =
 
 -- an array that holds the first i lamellae holds, after one store, one more
 pub filled-more :
-  (f : Lamella → ℕ) (u : List ℕ) (i : ℕ) → i < 9
-  → set (nine (map f (lamellaeIn u i))) i (f (lamellaFrom (fields lamellaWidths u (3 * i)))) ≡ nine (map f (lamellaeIn u (i + 1)))
+    (f : Lamella → ℕ) (u : List ℕ) (i : ℕ) → i < 9
+    → set (nine (map f (lamellaeIn u i))) i (f (lamellaFrom (fields lamellaWidths u (3 * i)))) ≡ nine (map f (lamellaeIn u (i + 1)))
 unfolding lamellaeIn
 filled-more f u i h =
     nine-more (map f (lamellaeIn u i)) i (f (lamellaFrom (fields lamellaWidths u (3 * i)))) (length-map (lamellaeIn u i) f ∙ length-lamellaeIn u i) h

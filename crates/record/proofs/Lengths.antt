@@ -25,8 +25,8 @@ length-boardBytes [] = refl
 length-boardBytes (b ∷ bs) = omega (arith, length-boardBytes bs)
 
 pub lamellaBytes-more :
-  (ls : List Lamella) (l : Lamella)
-  → lamellaBytes (ls ++ (l ∷ [])) ≡ lamellaBytes ls ++ join lamellaWidths (l .direction ∷ l .thickness ∷ [])
+    (ls : List Lamella) (l : Lamella)
+    → lamellaBytes (ls ++ (l ∷ [])) ≡ lamellaBytes ls ++ join lamellaWidths (l .direction ∷ l .thickness ∷ [])
 unfolding lamellaBytes
 lamellaBytes-more [] l = refl
 lamellaBytes-more (x ∷ ls) l =
@@ -36,11 +36,12 @@ pub length-encode : (p : Panel) → length (encode p) ≡ recordLength p
 unfolding encode
 length-encode p =
     simp length-append
-    (omega
-    (arith,
-    length-boardBytes (boardsOf (p .cladding)),
-    length-lamellaBytes (lamellae p),
-    length-lamellaeOf (p .directions) (p .thicknesses) (p .count)))
+    (omega (
+      arith,
+      length-boardBytes (boardsOf (p .cladding)),
+      length-lamellaBytes (lamellae p),
+      length-lamellaeOf (p .directions) (p .thicknesses) (p .count),
+    ))
 
 -- a record stored at the start of a space: the record, and the old bytes after it
 pub stored-record : (p : Panel) (space : List ℕ) → recordLength p ≤ length space → sets space 0 (encode p) ≡ encode p ++ drop (recordLength p) space
@@ -50,19 +51,19 @@ stored-record p space h =
 
 -- the parts of a record stored one after the other are the record
 pub parts-stored :
-  (p : Panel) (l l₁ l₂ l₃ l₄ : List ℕ) (len boards : ℕ) → len ≡ recordLength p → boards ≡ length (boardsOf (p .cladding))
-  → l₁ ≡ sets l 0 (join frontWidths (len ∷ 1 ∷ []))
-  → l₂ ≡ sets l₁ 3 (join headWidths (p .bond ∷ p .rate ∷ p .gap ∷ p .strength ∷ p .moment ∷ boards ∷ p .«failure_time» ∷ []))
-  → l₃ ≡ sets l₂ 17 (boardBytes (boardsOf (p .cladding)))
-  → l₄ ≡ sets l₃ (17 + 4 * boards) (join countWidths (p .count ∷ []) ++ lamellaBytes (lamellae p))
-  → l₄ ≡ sets l 0 (encode p)
+    (p : Panel) (l l₁ l₂ l₃ l₄ : List ℕ) (len boards : ℕ) → len ≡ recordLength p → boards ≡ length (boardsOf (p .cladding))
+    → l₁ ≡ sets l 0 (join frontWidths (len ∷ 1 ∷ []))
+    → l₂ ≡ sets l₁ 3 (join headWidths (p .bond ∷ p .rate ∷ p .gap ∷ p .strength ∷ p .moment ∷ boards ∷ p .«failure_time» ∷ []))
+    → l₃ ≡ sets l₂ 17 (boardBytes (boardsOf (p .cladding)))
+    → l₄ ≡ sets l₃ (17 + 4 * boards) (join countWidths (p .count ∷ []) ++ lamellaBytes (lamellae p))
+    → l₄ ≡ sets l 0 (encode p)
 unfolding encode
 parts-stored p l l₁ l₂ l₃ l₄ len boards el eb e₁ e₂ e₃ e₄ =
     let bs : List ℕ = boardBytes (boardsOf (p .cladding)) in
     let front : List ℕ = join frontWidths (recordLength p ∷ 1 ∷ []) in
     let head : List ℕ =
-      join headWidths
-      (p .bond ∷ p .rate ∷ p .gap ∷ p .strength ∷ p .moment ∷ length (boardsOf (p .cladding)) ∷ p .«failure_time» ∷ [])
+    join headWidths
+    (p .bond ∷ p .rate ∷ p .gap ∷ p .strength ∷ p .moment ∷ length (boardsOf (p .cladding)) ∷ p .«failure_time» ∷ [])
     in
     let tail : List ℕ = join countWidths (p .count ∷ []) ++ lamellaBytes (lamellae p) in
     let f₁ : l₁ ≡ sets l 0 front = rw (← el) e₁ in

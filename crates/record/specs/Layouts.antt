@@ -76,9 +76,9 @@ recordLamellae b = lamellaeIn (lamellaPart b) (min (lamellaCount b) 9)
 -- lamellae as a panel holds them
 abbrev pub arraysOf : List Lamella → Lamellae
 arraysOf ls =
-    record
-    { directions = nine (map (λ (l : Lamella). l .direction) ls)
-    ; thicknesses = nine (map (λ (l : Lamella). l .thickness) ls)
+    record {
+      directions = nine (map (λ (l : Lamella). l .direction) ls);
+      thicknesses = nine (map (λ (l : Lamella). l .thickness) ls);
     }
 
 -- the panel that stands in a record

@@ -46,8 +46,16 @@ fn bad_lamella_count(s: &[u8]) -> bool
 fn upper_refusal(s: &[u8], p: Panel) -> u8
     ensures { λ r. ⌜ r ≡ refusal (upperLines (now (s .entry)) p) ⌝ }
 {
-    let lower = line_or(6, bad_board_count(s), boards_or(p, line_or(10, bad_lamella_count(s), 0)));
-    line_or(1, bad_length(s), line_or(2, bad_version(s), head_or(p, lower)))
+    let lower = line_or(
+        6,
+        bad_board_count(s),
+        boards_or(p, line_or(10, bad_lamella_count(s), 0)),
+    );
+    line_or(
+        1,
+        bad_length(s),
+        line_or(2, bad_version(s), head_or(p, lower)),
+    )
 }
 
 // Lines 1 to 13 of a record in which p stands: the number of the first that fits, or 0. No open call: p's count must be the

@@ -1,7 +1,7 @@
 // Takes a record apart by the layout. Nothing is asked of the bytes: one past the end reads as 0, and the lines in `lines` say
 // whether the panel stands for a record.
-use numbers::bytes::get8;
 use crate::Lamellae;
+use numbers::bytes::get8;
 use numbers::bytes::get16;
 use numbers::bytes::get32;
 use numbers::bytes::part_from;

@@ -1,8 +1,8 @@
 // Whether a depth passes.
 use crate::Section;
+use crate::sums::section_of;
 use numbers::natural::beyond;
 use numbers::natural::larger;
-use crate::sums::section_of;
 use panel::Panel;
 ghost use mathlib.Core.Path.{_≡_};
 ghost use Prim.Native.Nat.{_-_, _*_, _≤_, max};

@@ -23,8 +23,8 @@ returns-2 c =
     let a = c .before .before .before .args .a in
     let b = c .before .before .before .args .b in
     let unequal : sameLamellae (lamellae a) (lamellae b) ≡ false =
-      sameLamellae-unequal (lamellae a) (lamellae b)
-      (λ e. c .if1 .left (sym (length-lamellaeOf (a .directions) (a .thicknesses) (a .count)) ∙ e ∙ length-lamellaeOf (b .directions) (b .thicknesses) (b .count)))
+    sameLamellae-unequal (lamellae a) (lamellae b)
+    (λ e. c .if1 .left (sym (length-lamellaeOf (a .directions) (a .thicknesses) (a .count)) ∙ e ∙ length-lamellaeOf (b .directions) (b .thicknesses) (b .count)))
     in
     sym (ap (λ (t : Bool). sameCladding (a .cladding) (b .cladding) && t) unequal ∙ and-false (sameCladding (a .cladding) (b .cladding)))
 

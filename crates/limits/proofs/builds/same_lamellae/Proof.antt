@@ -34,11 +34,12 @@ loop-again c =
     let ts = c .before .before .before .before .before .before .before .args .a .thicknesses in
     let us = c .before .before .before .before .before .before .before .args .b .thicknesses in
     let i = c .before .before .loop .i in
-    let e : length (lamellaeOf gs ts i) ≡ length (lamellaeOf hs us i) = length-lamellaeOf gs ts i ∙ sym (length-lamellaeOf hs us i) in
-    (omega arith,
-     rw (add-one)
-     (ap₂ (λ (a b : Bool). a && b) (c .before .before .loop .inv .1) (c .same-lamella .ensures)
-      ∙ sym (sameLamellae-more (lamellaeOf gs ts i) (lamellaeOf hs us i) (lamella (getD gs i 0) (getD ts i 0)) (lamella (getD hs i 0) (getD us i 0)) e)))
+    let e : length (lamellaeOf gs ts i) ≡ length (lamellaeOf hs us i) = length-lamellaeOf gs ts i ∙ sym (length-lamellaeOf hs us i) in (
+      omega arith,
+      rw (add-one)
+          (ap₂ (λ (a b : Bool). a && b) (c .before .before .loop .inv .1) (c .same-lamella .ensures)
+          ∙ sym (sameLamellae-more (lamellaeOf gs ts i) (lamellaeOf hs us i) (lamella (getD gs i 0) (getD ts i 0)) (lamella (getD hs i 0) (getD us i 0)) e)),
+    )
 
 returns : tie.Need-returns Inv-loop μ-loop
 returns c =

@@ -16,7 +16,7 @@ unfolding panelRefusal
 returns c =
     let p = c .before .before .before .before .before .args .p in
     let e : c .before .head-or .result ≡ refusal (upperLines p) =
-      c .before .head-or .ensures ∙ ap (firstOr (headLines p)) (c .before .before .boards-or .ensures ∙ ap (firstOr (boardLines p)) (c .before .before .before .line-or .ensures ∙ ap (λ (t : Bool). pick t 10 0) (c .before .before .before .before .bad-count .ensures)))
+    c .before .head-or .ensures ∙ ap (firstOr (headLines p)) (c .before .before .boards-or .ensures ∙ ap (firstOr (boardLines p)) (c .before .before .before .line-or .ensures ∙ ap (λ (t : Bool). pick t 10 0) (c .before .before .before .before .bad-count .ensures)))
     in
     e ∙ sym (first-some (upperLines p) (refusal (lamellaLines p)) (λ z. c .if1 .taken (e ∙ z)))
 
@@ -24,7 +24,7 @@ lamella-refusal-requires : tie.Need-lamella-refusal-requires
 lamella-refusal-requires c κs =
     let p = c .before .before .before .before .before .args .p in
     let e : c .before .head-or .result ≡ refusal (upperLines p) =
-      c .before .head-or .ensures ∙ ap (firstOr (headLines p)) (c .before .before .boards-or .ensures ∙ ap (firstOr (boardLines p)) (c .before .before .before .line-or .ensures ∙ ap (λ (t : Bool). pick t 10 0) (c .before .before .before .before .bad-count .ensures)))
+    c .before .head-or .ensures ∙ ap (firstOr (headLines p)) (c .before .before .boards-or .ensures ∙ ap (firstOr (boardLines p)) (c .before .before .before .line-or .ensures ∙ ap (λ (t : Bool). pick t 10 0) (c .before .before .before .before .bad-count .ensures)))
     in
     loaded p (first-none (upperLines p) tt (sym e ∙ c .if1 .left))
 
@@ -33,7 +33,7 @@ unfolding panelRefusal
 returns-2 c =
     let p = c .before .before .before .before .before .before .args .p in
     let e : c .before .before .head-or .result ≡ refusal (upperLines p) =
-      c .before .before .head-or .ensures ∙ ap (firstOr (headLines p)) (c .before .before .before .boards-or .ensures ∙ ap (firstOr (boardLines p)) (c .before .before .before .before .line-or .ensures ∙ ap (λ (t : Bool). pick t 10 0) (c .before .before .before .before .before .bad-count .ensures)))
+    c .before .before .head-or .ensures ∙ ap (firstOr (headLines p)) (c .before .before .before .boards-or .ensures ∙ ap (firstOr (boardLines p)) (c .before .before .before .before .line-or .ensures ∙ ap (λ (t : Bool). pick t 10 0) (c .before .before .before .before .before .bad-count .ensures)))
     in
     c .lamella-refusal .ensures ∙ sym (none-first (upperLines p) (first-none (upperLines p) tt (sym e ∙ c .before .if1 .left)) (refusal (lamellaLines p)))
 

@@ -14,8 +14,8 @@ returns c =
     let p = c .before .before .before .before .before .before .before .args .p in
     c .line-or2 .ensures
     ∙ ap₂ (λ (t : Bool) (n : ℕ). pick t 11 n)
-      (ap₂ (λ (a : Bool) (k : ℕ). a || ltb 4000 k) (c .before .before .before .before .some-bad-lamella .ensures) (c .before .before .before .total-thickness .ensures (p .directions)))
-      (c .before .line-or .ensures ∙ ap (λ (t : Bool). pick (not t) 12 0) (c .before .before .some-along .ensures (p .thicknesses)))
+    (ap₂ (λ (a : Bool) (k : ℕ). a || ltb 4000 k) (c .before .before .before .before .some-bad-lamella .ensures) (c .before .before .before .total-thickness .ensures (p .directions)))
+    (c .before .line-or .ensures ∙ ap (λ (t : Bool). pick (not t) 12 0) (c .before .before .some-along .ensures (p .thicknesses)))
 
 pub lamellae-or-none-spec : {M : Type 1} → statement M
 lamellae-or-none-spec =

@@ -27,10 +27,13 @@ loop-again : tie.Need-loop-again Inv-loop μ-loop
 loop-again c =
     let u = now (c .before .before .before .before .before .args .u) in
     let i = c .before .before .before .loop .i in
-    let less : i < 9 = omega arith in
-    (omega arith,
-     (ap₂ (λ (l : List ℕ) (x : ℕ). set l i x) (c .before .before .before .loop .inv .1 .0) (c .before .get8 .ensures) ∙ filled-more (λ (l : Lamella). l .direction) u i less,
-      ap₂ (λ (l : List ℕ) (x : ℕ). set l i x) (c .before .before .before .loop .inv .1 .1) (c .get16 .ensures) ∙ filled-more (λ (l : Lamella). l .thickness) u i less))
+    let less : i < 9 = omega arith in (
+      omega arith,
+      (
+        ap₂ (λ (l : List ℕ) (x : ℕ). set l i x) (c .before .before .before .loop .inv .1 .0) (c .before .get8 .ensures) ∙ filled-more (λ (l : Lamella). l .direction) u i less,
+        ap₂ (λ (l : List ℕ) (x : ℕ). set l i x) (c .before .before .before .loop .inv .1 .1) (c .get16 .ensures) ∙ filled-more (λ (l : Lamella). l .thickness) u i less,
+      ),
+    )
 
 returns : tie.Need-returns Inv-loop μ-loop
 returns c =

@@ -15,8 +15,8 @@ returns c =
     let b = now (c .before .before .before .before .before .before .args .s) in
     c .lamellae-in .ensures
     ∙ ap₂ (λ (u : List ℕ) (n : ℕ). arraysOf (lamellaeIn u n))
-      (c .before .part-from .ensures ∙ ap (λ (c : ℕ). drop (18 + 4 * c) b) (c .before .before .before .before .board-count .ensures .0))
-      (c .before .before .lesser .ensures .0 ∙ ap (λ (n : ℕ). min n 9) (c .before .before .before .lamella-count .ensures .0))
+    (c .before .part-from .ensures ∙ ap (λ (c : ℕ). drop (18 + 4 * c) b) (c .before .before .before .before .board-count .ensures .0))
+    (c .before .before .lesser .ensures .0 ∙ ap (λ (n : ℕ). min n 9) (c .before .before .before .lamella-count .ensures .0))
 
 pub lamellae-of-spec : {M : Type 1} → statement M
 lamellae-of-spec =

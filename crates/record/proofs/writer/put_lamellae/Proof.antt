@@ -36,13 +36,16 @@ loop-again c =
     let i = c .before .before .before .before .before .loop .i in
     let xs = lamellaeOf gs ts i in
     let x = lamella (getD gs i 0) (getD ts i 0) in
-    let e : c .before .before .before .before .before .before .before .args .at + 3 * i ≡ c .before .before .before .before .before .before .before .args .at + length (lamellaBytes xs) = omega (arith, length-lamellaBytes xs, length-lamellaeOf gs ts i) in
-    (omega arith,
-     (c .before .before .put-lamella .kept .0 ∙ c .before .before .before .before .before .loop .inv .1 .0,
-      then-put (now (c .before .before .before .before .before .before .before .args .out)) (c .before .before .before .before .before .loop .out) (c .before .before .put-lamella .last .0) (c .before .before .before .before .before .before .before .args .at) (lamellaBytes xs) (c .before .before .before .before .before .before .before .args .at + 3 * i)
-      (join lamellaWidths (getD gs i 0 ∷ getD ts i 0 ∷ []))
-      (c .before .before .before .before .before .loop .inv .1 .1) e (c .before .before .put-lamella .ensures)
-      ∙ ap (sets (now (c .before .before .before .before .before .before .before .args .out)) (c .before .before .before .before .before .before .before .args .at)) (sym (lamellaBytes-more xs x) ∙ ap (λ (k : ℕ). lamellaBytes (lamellaeOf gs ts k)) (sym (add-one i)))))
+    let e : c .before .before .before .before .before .before .before .args .at + 3 * i ≡ c .before .before .before .before .before .before .before .args .at + length (lamellaBytes xs) = omega (arith, length-lamellaBytes xs, length-lamellaeOf gs ts i) in (
+      omega arith,
+      (
+        c .before .before .put-lamella .kept .0 ∙ c .before .before .before .before .before .loop .inv .1 .0,
+        then-put (now (c .before .before .before .before .before .before .before .args .out)) (c .before .before .before .before .before .loop .out) (c .before .before .put-lamella .last .0) (c .before .before .before .before .before .before .before .args .at) (lamellaBytes xs) (c .before .before .before .before .before .before .before .args .at + 3 * i)
+            (join lamellaWidths (getD gs i 0 ∷ getD ts i 0 ∷ []))
+            (c .before .before .before .before .before .loop .inv .1 .1) e (c .before .before .put-lamella .ensures)
+            ∙ ap (sets (now (c .before .before .before .before .before .before .before .args .out)) (c .before .before .before .before .before .before .before .args .at)) (sym (lamellaBytes-more xs x) ∙ ap (λ (k : ℕ). lamellaBytes (lamellaeOf gs ts k)) (sym (add-one i))),
+      ),
+    )
 
 returns : tie.Need-returns Inv-loop μ-loop
 returns c =

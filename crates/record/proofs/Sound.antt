@@ -1,0 +1,96 @@
+-- What an accepted record's lines say of its bytes.
+use Prim.Native.Nat.{ℕ, zero, suc, _+_, _*_, _<_, _≤_, min}
+use mathlib.Core.Path.{_≡_, refl, sym, ap, ap₂, _∙_}
+use mathlib.Core.List.{List, [], _∷_, _++_, map}
+use mathlib.Core.Bool.{Bool, true, false, not, _||_}
+use native.Mathlib.Omega.{arith}
+use borrow.Author.Tests.{ltb-false, eqb-true, not-false}
+use lib.ListN.{length, getD}
+use lib.Dec.{ltb, eqb}
+use mathlib.Core.Logic.{_↔_}
+use Rattle.numbers.specs.Choice.{outside}
+use Rattle.numbers.specs.Bytes.{number, fields}
+use Rattle.panel.specs.declared.Cladding.{Cladding}
+use Rattle.panel.specs.Lamellae.{Lamella, lamellae, lamellaeOf, nine}
+use Rattle.panel.proofs.Used.{lamellaeOf-nine}
+use Rattle.limits.specs.Lines.{NoneFits}
+use Rattle.limits.specs.Causes.{badCount}
+use Rattle.limits.specs.Refusals.{panelLines, panelRefusal}
+use Rattle.limits.proofs.FirstLine.{First, accepted-iff, refusal-first, none-first}
+use Rattle.limits.proofs.Accepted.{or-none, in-range}
+use Rattle.record.specs.Layouts.{frontWidths, boardCount, lamellaCount, lamellaPart, claddingAt, boardsOf, lamellaeIn, recordLamellae, panelOf, recordLength}
+use Rattle.record.specs.Refusals.{badLength, badBoardCount, badLamellaCount, recordLines, recordRefusal}
+use Rattle.record.proofs.Arrays.{length-lamellaeIn}
+
+-- the bytes of an accepted record
+pub record Sound (b : List ℕ) : Type 0 where
+  pub length : number b 0 2 ≡ length b
+  pub version : number b 2 1 ≡ 1
+  pub boards : boardCount b ≤ 2
+  pub count : lamellaCount b ≤ 9
+  pub whole : lib.ListN.length b ≡ 18 + 4 * boardCount b + 3 * lamellaCount b
+
+-- a record is accepted exactly when no line about it fits, and a refusal is the first line that does
+pub record-accepted-iff : (b : List ℕ) → (recordRefusal b ≡ 0) ↔ NoneFits (recordLines b (panelOf b))
+unfolding recordRefusal
+record-accepted-iff b = accepted-iff (recordLines b (panelOf b)) tt
+
+pub record-first : (b : List ℕ) → (recordRefusal b ≡ 0 → ⊥) → First (recordLines b (panelOf b)) (recordRefusal b)
+unfolding recordRefusal
+record-first b ne = refusal-first (recordLines b (panelOf b)) ne
+
+pub accepted-lines : (b : List ℕ) → recordRefusal b ≡ 0 → NoneFits (recordLines b (panelOf b))
+accepted-lines b e = record-accepted-iff b .0 e
+
+pub accepted-sound : (b : List ℕ) → recordRefusal b ≡ 0 → Sound b
+accepted-sound b e =
+    let h = accepted-lines b e in
+    let one = or-none (outside 21 53 (length b)) (not (eqb (number b 0 2) (length b))) (h .0) in
+    let six =
+    or-none (ltb 2 (boardCount b)) (ltb (length b) (21 + 4 * boardCount b)) (h .1 .1 .1 .1 .1 .0)
+    in
+    let ten =
+    or-none (badCount (lamellaCount b)) (not (eqb (length b) (18 + 4 * boardCount b + 3 * lamellaCount b)))
+    (h .1 .1 .1 .1 .1 .1 .1 .1 .1 .0)
+    in
+    record {
+      length = eqb-true (number b 0 2) (length b) (not-false (eqb (number b 0 2) (length b)) (one .1));
+      version = eqb-true (number b 2 1) 1 (not-false (eqb (number b 2 1) 1) (h .1 .0));
+      boards = ltb-false 2 (boardCount b) (six .0);
+      count = in-range 1 9 (lamellaCount b) (ten .0) .1;
+      whole =
+          eqb-true (length b) (18 + 4 * boardCount b + 3 * lamellaCount b)
+          (not-false (eqb (length b) (18 + 4 * boardCount b + 3 * lamellaCount b)) (ten .1));
+    }
+
+-- the panel of a record with at most two boards has as many boards as the record says
+pub boards-counted : (c : ℕ) (t : List ℕ) → c ≤ 2 → length (boardsOf (claddingAt c t)) ≡ c
+boards-counted zero t h = refl
+boards-counted (suc zero) t h = refl
+boards-counted (suc (suc zero)) t h = refl
+boards-counted (suc (suc (suc c))) t h = absurd (let z : ⊥ = omega arith in z)
+
+-- the lamellae of a record's panel are those of its lamella bytes
+pub record-lamellae : (b : List ℕ) → lamellaCount b ≤ 9 → lamellae (panelOf b) ≡ lamellaeIn (lamellaPart b) (lamellaCount b)
+unfolding panelOf
+record-lamellae b h =
+    let n = lamellaCount b in
+    let u = lamellaPart b in
+    let ls = lamellaeIn u n in
+    let least : min n 9 ≡ n = omega arith in
+    ap (λ (k : ℕ). lamellaeOf (nine (map (λ (l : Lamella). l .direction) (lamellaeIn u k))) (nine (map (λ (l : Lamella). l .thickness) (lamellaeIn u k))) n) least
+    ∙ ap (lamellaeOf (nine (map (λ (l : Lamella). l .direction) ls)) (nine (map (λ (l : Lamella). l .thickness) ls))) (sym (length-lamellaeIn u n))
+    ∙ lamellaeOf-nine ls
+
+-- the panel of an accepted record is accepted
+pub record-panel : (b : List ℕ) → recordRefusal b ≡ 0 → panelRefusal (panelOf b) ≡ 0
+unfolding panelRefusal panelOf
+record-panel b e =
+    let h = accepted-lines b e in
+    let head = h .1 .1 in
+    let boards = h .1 .1 .1 .1 .1 .1 in
+    let lamella = h .1 .1 .1 .1 .1 .1 .1 .1 .1 .1 in
+    let ten = or-none (badCount (lamellaCount b)) (not (eqb (length b) (18 + 4 * boardCount b + 3 * lamellaCount b))) (h .1 .1 .1 .1 .1 .1 .1 .1 .1 .0) in
+    none-first (panelLines (panelOf b))
+    (head .0, (head .1 .0, (head .1 .1 .0, (boards .0, (boards .1 .0, (boards .1 .1 .0, (ten .0, lamella)))))))
+    0

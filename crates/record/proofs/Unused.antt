@@ -1,0 +1,35 @@
+-- Unused places do not matter to the writer: panels that differ at most there get the same answer and leave the same bytes.
+use Prim.Native.Nat.{ℕ}
+use mathlib.Core.Path.{_≡_, refl}
+use mathlib.Core.List.{List}
+use Rattle.panel.specs.declared.Panel.{Panel}
+use Rattle.panel.specs.Lamellae.{SameUsed}
+use Rattle.panel.proofs.Used.{same-lamellae}
+use Rattle.record.specs.Layouts.{recordLength, encode}
+use Rattle.record.specs.Refusals.{writeRefusal}
+use Rattle.record.specs.Answers.{writeAnswer, spaceAfter}
+
+length-unused : (p q : Panel) → SameUsed p q → recordLength p ≡ recordLength q
+length-unused p q h = rw (h .cladding, h .count) refl
+
+encode-unused : (p q : Panel) → SameUsed p q → encode p ≡ encode q
+unfolding encode
+encode-unused p q h =
+    rw
+    (same-lamellae p q h, h .bond, h .gap, h .rate, h .strength, h .moment, h .failureTime, h .cladding, h .count)
+    refl
+
+write-refusal-unused : (p q : Panel) → SameUsed p q → (space : List ℕ) → writeRefusal p space ≡ writeRefusal q space
+unfolding writeRefusal
+write-refusal-unused p q h space =
+    rw
+    (same-lamellae p q h, h .bond, h .gap, h .rate, h .strength, h .moment, h .failureTime, h .cladding, h .count)
+    refl
+
+pub write-unused : (p q : Panel) → SameUsed p q → (space : List ℕ) → writeAnswer p space ≡ writeAnswer q space
+unfolding writeAnswer
+write-unused p q h space = rw (write-refusal-unused p q h space, length-unused p q h) refl
+
+pub space-unused : (p q : Panel) → SameUsed p q → (space : List ℕ) → spaceAfter p space ≡ spaceAfter q space
+unfolding spaceAfter
+space-unused p q h space = rw (write-refusal-unused p q h space, encode-unused p q h, length-unused p q h) refl

@@ -1,0 +1,42 @@
+// Compares the panels of two records: a line of the input is both records in hexadecimal and a text. Prints whether the two are the
+// same build, or the refusal, and the text. A refused record stands for a blank panel.
+use limits::BuildAnswer;
+use test_lines::input::after_word;
+use test_lines::input::first_word;
+use test_lines::input::line_at;
+use test_lines::input::next_line;
+use test_lines::output;
+use test_lines::records::panel_of;
+
+fn print_answer(answer: BuildAnswer) {
+    match answer {
+        BuildAnswer::Same => output::text(b"same"),
+        BuildAnswer::Different => output::text(b"different"),
+        BuildAnswer::Refused(n) => {
+            output::text(b"refused ");
+            output::number(n as u64);
+        }
+    }
+}
+
+fn answer(line: &[u8]) {
+    let rest = after_word(line);
+    let a = panel_of(first_word(line));
+    let b = panel_of(first_word(rest));
+    print_answer(limits::calls::same_build(a, b));
+    output::end_line(after_word(rest));
+}
+
+fn answer_all(text: &[u8]) {
+    let mut at = 0;
+    while at < text.len() {
+        answer(line_at(text, at));
+        at = next_line(text, at);
+    }
+}
+
+fn main() {
+    let mut input = io::large_buffer();
+    let n = io::read_full(0, &mut input);
+    answer_all(&input[..n]);
+}

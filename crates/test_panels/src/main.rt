@@ -1,0 +1,236 @@
+// Panels that no record gives: built here, field by field, and handed to each open call. A line has the refusals of `panel_refusal`, of
+// `section`, of `write`, and of `same_build` with the panel in the first and in the second place, 0 for none, and the panel's name.
+use limits::BuildAnswer;
+use limits::SectionAnswer;
+use panel::Board;
+use panel::Cladding;
+use panel::Panel;
+use record::Writing;
+use test_lines::output;
+
+fn section_refusal(p: Panel) -> u8 {
+    let answer = limits::calls::section(p, 0);
+    match answer {
+        SectionAnswer::At(_, _) => 0,
+        SectionAnswer::Refused(n) => n,
+    }
+}
+
+fn write_refusal(p: Panel) -> u8 {
+    let mut space = [0u8; 64];
+    let answer = record::calls::write(p, &mut space);
+    match answer {
+        Writing::Written(_) => 0,
+        Writing::Refused(n) => n,
+    }
+}
+
+fn build_refusal(a: Panel, b: Panel) -> u8 {
+    let answer = limits::calls::same_build(a, b);
+    match answer {
+        BuildAnswer::Same => 0,
+        BuildAnswer::Different => 0,
+        BuildAnswer::Refused(n) => n,
+    }
+}
+
+fn print_refusal(n: u8) {
+    output::number(n as u64);
+    output::text(b" ");
+}
+
+fn print_panel(p: Panel, name: &[u8]) {
+    print_refusal(limits::calls::panel_refusal(p));
+    print_refusal(section_refusal(p));
+    print_refusal(write_refusal(p));
+    print_refusal(build_refusal(p, g()));
+    output::number(build_refusal(g(), p) as u64);
+    output::end_line(name);
+}
+
+// What 64 bytes of 238 hold after the panel is written into them.
+fn print_record(p: Panel, name: &[u8]) {
+    let mut space = [238u8; 64];
+    record::calls::write(p, &mut space);
+    output::hex(&space);
+    output::end_line(name);
+}
+
+fn print_build(a: Panel, b: Panel, name: &[u8]) {
+    let answer = limits::calls::same_build(a, b);
+    match answer {
+        BuildAnswer::Same => output::text(b"same"),
+        BuildAnswer::Different => output::text(b"different"),
+        BuildAnswer::Refused(_) => output::text(b"refused"),
+    }
+    output::end_line(name);
+}
+
+fn panel(
+    cladding: Cladding,
+    failure_time: u32,
+    count: usize,
+    directions: [u8; 9],
+    thicknesses: [u16; 9],
+) -> Panel {
+    Panel {
+        bond: 0,
+        rate: 65,
+        gap: 0,
+        strength: 240,
+        moment: 3000,
+        failure_time,
+        cladding,
+        count,
+        directions,
+        thicknesses,
+    }
+}
+
+fn unclad(count: usize, directions: [u8; 9], thicknesses: [u16; 9]) -> Panel {
+    panel(Cladding::Unclad, 0, count, directions, thicknesses)
+}
+
+// The document's panel G under boards.
+fn clad(cladding: Cladding, failure_time: u32) -> Panel {
+    let directions = [1u8, 0, 1, 0, 0, 0, 0, 0, 0];
+    let thicknesses = [300u16, 400, 300, 0, 0, 0, 0, 0, 0];
+    panel(cladding, failure_time, 3, directions, thicknesses)
+}
+
+fn g() -> Panel {
+    clad(Cladding::Unclad, 0)
+}
+
+fn board(kind: u8, thickness: u16, joint: u8) -> Board {
+    Board {
+        kind,
+        thickness,
+        joint,
+    }
+}
+
+fn one(kind: u8, thickness: u16, joint: u8, failure_time: u32) -> Panel {
+    clad(Cladding::One(board(kind, thickness, joint)), failure_time)
+}
+
+fn two(outer: u8, inner: u8, failure_time: u32) -> Panel {
+    clad(
+        Cladding::Two(board(outer, 125, 100), board(inner, 125, 100)),
+        failure_time,
+    )
+}
+
+fn print_loads() {
+    let mut p = g();
+    print_panel(p, b"G");
+    p.bond = 255;
+    print_panel(p, b"bond 255");
+    p = g();
+    p.gap = 2;
+    print_panel(p, b"gap 2");
+    p = g();
+    p.rate = 255;
+    print_panel(p, b"rate 255");
+    p = g();
+    p.strength = 65535;
+    print_panel(p, b"strength 65,535");
+    p = g();
+    p.moment = 4294967295;
+    print_panel(p, b"moment 4,294,967,295");
+    p.moment = 43057;
+    print_panel(p, b"moment 43,057");
+    p.moment = 43056;
+    print_panel(p, b"moment 43,056");
+}
+
+fn print_boards() {
+    print_panel(one(b'B', 125, 100, 0), b"unknown type B");
+    print_panel(one(0, 125, 100, 0), b"type 0");
+    print_panel(two(b'H', b'f', 0), b"unknown type f under H");
+    print_panel(two(b'F', b'A', 49000), b"F over A");
+    print_panel(two(b'A', b'F', 0), b"F under A");
+    print_panel(two(b'H', b'F', 0), b"F under H");
+    print_panel(two(b'A', b'H', 0), b"A over H");
+    print_panel(two(b'F', b'F', 49000), b"F over F");
+    print_panel(two(b'F', b'F', 48999), b"F over F, failure before charring");
+    print_panel(one(b'A', 65535, 100, 0), b"board thickness 65,535");
+    print_panel(one(b'H', 125, 255, 0), b"joint coefficient 255");
+    print_panel(
+        one(b'F', 125, 100, 4294967295),
+        b"failure time 4,294,967,295 of F",
+    );
+    print_panel(
+        clad(Cladding::Unclad, 4294967295),
+        b"failure time 4,294,967,295, unclad",
+    );
+    print_panel(
+        clad(
+            Cladding::Two(board(b'F', 65535, 255), board(b'F', 65535, 255)),
+            4294967295,
+        ),
+        b"two F at their greatest",
+    );
+}
+
+fn print_lamellae() {
+    let full_along = [1u8; 9];
+    let g_along = [1u8, 0, 1, 0, 0, 0, 0, 0, 0];
+    let g_thick = [300u16, 400, 300, 0, 0, 0, 0, 0, 0];
+    print_panel(unclad(0, g_along, g_thick), b"count 0");
+    print_panel(unclad(10, full_along, [300u16; 9]), b"count 10");
+    print_panel(
+        unclad(18446744073709551615, full_along, [300u16; 9]),
+        b"count 18,446,744,073,709,551,615",
+    );
+    print_panel(unclad(9, full_along, [400u16; 9]), b"count 9, arrays full");
+    print_panel(unclad(9, full_along, [445u16; 9]), b"count 9, sum 4,005");
+    print_panel(
+        unclad(9, full_along, [65535u16; 9]),
+        b"nine lamellae of 65,535",
+    );
+    print_panel(
+        unclad(1, full_along, [65535u16; 9]),
+        b"one lamella of 65,535",
+    );
+    print_panel(unclad(3, [255u8; 9], g_thick), b"direction 255");
+    print_panel(unclad(3, [0u8; 9], g_thick), b"all across");
+    print_panel(unclad(3, g_along, [0u16; 9]), b"thickness 0");
+}
+
+// Unused places are ignored, and written nowhere.
+fn print_unused() {
+    let directions = [1u8, 0, 1, 255, 255, 255, 255, 255, 255];
+    let thicknesses = [300u16, 400, 300, 65535, 65535, 65535, 65535, 65535, 65535];
+    let full = unclad(3, directions, thicknesses);
+    print_panel(full, b"unused places full");
+    print_record(full, b"record of the panel with unused places full");
+    print_record(g(), b"record of the panel with unused places 0");
+    print_build(full, g(), b"unused places full and 0");
+    print_panel(unclad(4, directions, thicknesses), b"a full place used");
+}
+
+fn print_greatest() {
+    let mut p = panel(
+        Cladding::Two(board(255, 65535, 255), board(255, 65535, 255)),
+        4294967295,
+        18446744073709551615,
+        [255u8; 9],
+        [65535u16; 9],
+    );
+    p.bond = 255;
+    p.rate = 255;
+    p.gap = 255;
+    p.strength = 65535;
+    p.moment = 4294967295;
+    print_panel(p, b"all fields at their greatest");
+    print_record(p, b"space after all fields at their greatest");
+}
+
+fn main() {
+    print_loads();
+    print_boards();
+    print_lamellae();
+    print_unused();
+    print_greatest();
+}

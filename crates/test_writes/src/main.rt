@@ -1,0 +1,70 @@
+// Reads each record of the input and writes its panel into lent space: a line is the number of lent bytes, at most 64, the record in
+// hexadecimal and a text. The space is the front of 64 bytes filled with 238. Prints the writer's answer, all 64 bytes, and the text.
+use panel::Panel;
+use record::Writing;
+use test_lines::input::after_word;
+use test_lines::input::first_word;
+use test_lines::input::line_at;
+use test_lines::input::next_line;
+use test_lines::input::number;
+use test_lines::output;
+use test_lines::records::panel_of;
+ghost use Prim.Native.Nat.{_≤_};
+ghost use lib.ListN.{length};
+
+fn write_into(p: Panel, out: &mut [u8], space: usize) -> Writing
+    requires { ⌜ space ≤ length (now out) ⌝ }
+{
+    record::calls::write(p, &mut out[0..space])
+}
+
+fn print_answer(answer: Writing) {
+    match answer {
+        Writing::Written(k) => {
+            output::text(b"written ");
+            output::number(k as u64);
+        }
+        Writing::Refused(n) => {
+            output::text(b"refused ");
+            output::number(n as u64);
+        }
+    }
+}
+
+// As many of the lent bytes as there are.
+fn at_most_64(n: u32) -> usize
+    ensures { λ r. ⌜ r ≤ 64 ⌝ }
+{
+    if n < 64 { n as usize } else { 64 }
+}
+
+fn print_writing(p: Panel, space: usize)
+    requires { ⌜ space ≤ 64 ⌝ }
+{
+    let mut bytes = [238u8; 64];
+    let answer = write_into(p, &mut bytes, space);
+    print_answer(answer);
+    output::text(b" ");
+    output::hex(&bytes);
+}
+
+fn answer(line: &[u8]) {
+    let space = at_most_64(number(first_word(line)));
+    let rest = after_word(line);
+    print_writing(panel_of(first_word(rest)), space);
+    output::end_line(after_word(rest));
+}
+
+fn answer_all(text: &[u8]) {
+    let mut at = 0;
+    while at < text.len() {
+        answer(line_at(text, at));
+        at = next_line(text, at);
+    }
+}
+
+fn main() {
+    let mut input = io::large_buffer();
+    let n = io::read_full(0, &mut input);
+    answer_all(&input[..n]);
+}

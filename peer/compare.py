@@ -1,0 +1,190 @@
+"""compare.py REPOSITORY [--records N] [--seed S] [--bin] [PROGRAM..]
+
+Runs the test programs on random records and compares what they print with peer.py. Nothing has to be proved: each program is run by
+`rt try`, on the interpreter and compiled three ways, in a scratch copy of the repository. --bin: runs target/bin/PROGRAM instead.
+The input goes in pieces: a program reads 64 KiB at most, and the interpreter stops after ten million steps. test_panels reads no
+input: its `main` is written anew, with random panels, unused places full (not with --bin).
+Ends with status 1 at a disagreement, and prints its line.
+"""
+import argparse
+import os
+import random
+import re
+import shutil
+import subprocess
+import sys
+import tempfile
+
+import make_cases
+import peer
+import programs
+import random_records
+
+ROOM = 65_000  # bytes of one input
+GROUP = 300    # cases of one input
+
+
+def random_space(rng, record):
+    return rng.choice([0, 64, max(0, len(record) - 1), min(64, len(record)), rng.randint(0, 64)])
+
+
+def random_depth(rng, record):
+    """Near an edge of a lamella, past the back face, or anywhere in the panel."""
+    edges, at = [0], 0
+    for _, thickness in programs.panel_of(record).lamellae:
+        at += thickness
+        edges.append(at)
+    near = rng.choice(edges) + rng.choice([-31, -30, -29, -1, 0, 1, 29, 30, 31])
+    return rng.choice([max(0, near), rng.randint(0, at + 1), rng.choice([4_001, 2 ** 32 - 1])])
+
+
+def partner(rng, record):
+    """A second record for a comparison: the same build, nearly the same, or any other."""
+    panel = programs.panel_of(record)
+    way = rng.randrange(4)
+    if way == 0 or not panel.lamellae:
+        return random_records.random_record(rng)
+    if way == 1:
+        return peer.encode(panel._replace(bond=1 - panel.bond, rate=rng.randint(50, 100), moment=0))
+    if way == 2:
+        return peer.encode(random_records.at_a_limit(rng, panel))
+    at = rng.randrange(17, len(record))
+    return record[:at] + bytes([record[at] ^ 1 << rng.randrange(3)]) + record[at + 1:]
+
+
+def cases(name, seed, count):
+    rng = random.Random(f"{name} {seed}")
+    for number in range(count):
+        record = random_records.random_record(rng)
+        text = f"case {number}"
+        if name == "test_records":
+            yield record, text
+        elif name == "test_writes":
+            yield random_space(rng, record), record, text
+        elif name == "test_sections":
+            yield random_depth(rng, record), record, text
+        else:
+            yield record, partner(rng, record), text
+
+
+def pieces(name, all_cases):
+    """The cases in groups whose input fits one run."""
+    group, size = [], 0
+    for case in all_cases:
+        length = len(programs.PROGRAMS[name][0](*case)) + 1
+        if size + length > ROOM or len(group) == GROUP:
+            yield group
+            group, size = [], 0
+        group.append(case)
+        size += length
+    yield group
+
+
+def built_case(rng, number):
+    """A random panel, often past a limit, as Rattle code that builds and prints it, and what peer.py says of it."""
+    panel = random_records.random_panel(rng)
+    for _ in range(rng.choice([0, 1, 1, 2, 3])):
+        panel = random_records.at_a_limit(rng, panel)
+    count = rng.choice([len(panel.lamellae)] * 8 + [0, 10, 2 ** 64 - 1])
+    if count == 0:
+        panel = panel._replace(lamellae=())
+    places = list(panel.lamellae) + [(rng.randrange(256), rng.randrange(65_536)) for _ in range(9)]
+    if count > 9:
+        panel = panel._replace(lamellae=tuple(places[:10]))
+    boards = [f"board({b.kind}, {b.thickness}, {b.joint})" for b in panel.boards]
+    cladding = ["Unclad", "One", "Two"][len(boards)] + (f"({', '.join(boards)})" if boards else "")
+    code = f"""fn case_{number}() {{
+    let mut p = panel(Cladding::{cladding}, {panel.failure_time}, {count}, {[d for d, _ in places[:9]]}, {[t for _, t in places[:9]]});
+    p.bond = {panel.bond};
+    p.rate = {panel.rate};
+    p.gap = {panel.gap};
+    p.strength = {panel.strength};
+    p.moment = {panel.moment};
+    print_panel(p, b"case {number}");
+    print_record(p, b"case {number}");
+}}
+"""
+    return code, make_cases.refusals_line(panel, f"case {number}") + make_cases.space_line(panel, f"case {number}")
+
+
+def compare_built(scratch, seed, count):
+    rng = random.Random(f"test_panels {seed}")
+    source = os.path.join(scratch, "crates/test_panels/src/main.rt")
+    with open(source) as file:
+        support = file.read().split("fn main() {")[0]
+    for start in range(0, count, GROUP):
+        numbers = range(start, min(count, start + GROUP))
+        built = [built_case(rng, number) for number in numbers]
+        calls = "".join(f"    case_{number}();\n" for number in numbers)
+        with open(source, "w") as file:
+            file.write(support + "".join(code for code, _ in built) + f"fn main() {{\n{calls}}}\n")
+        wrong = run_try(scratch, "test_panels", "", "".join(lines for _, lines in built))
+        if wrong:
+            print(f"test_panels disagrees at\n{built[wrong[0] // 2][0]}{built[wrong[0] // 2][1]}{wrong[1][:3000]}")
+            return False
+        print(f"test_panels: {numbers[-1] + 1} agree", flush=True)
+    return True
+
+
+def first_difference(said, expected):
+    """The number of the first line that differs, or None."""
+    if said == expected:
+        return None
+    a, b = said.split("\n"), expected.split("\n")
+    return next((i for i in range(min(len(a), len(b))) if a[i] != b[i]), min(len(a), len(b)))
+
+
+def run_bin(repository, name, given, expected):
+    said = subprocess.run([os.path.join(repository, "target/bin", name)], input=given, capture_output=True, text=True).stdout
+    at = first_difference(said, expected)
+    return None if at is None else (at, (said.split("\n") + [""])[at])
+
+
+def run_try(scratch, name, given, expected):
+    folder = os.path.join(scratch, "crates", name)
+    for file, text in (("stdin", given), ("stdout", expected)):
+        with open(os.path.join(folder, file), "w") as out:
+            out.write(text)
+    run = subprocess.run(["rt", "try", name], cwd=scratch, capture_output=True, text=True, env=dict(os.environ, RT_CUT="0"))
+    if run.returncode == 0:
+        return None
+    said = run.stdout + run.stderr
+    at = re.search(r"at byte (\d+)", said)
+    return (expected.encode()[:int(at.group(1))].count(b"\n") if at else 0), said
+
+
+def compare(run, place, name, seed, count):
+    done = 0
+    for group in pieces(name, cases(name, seed, count)):
+        given, expected = programs.lines(name, group)
+        wrong = run(place, name, given, expected)
+        if wrong:
+            at, said = wrong
+            print(f"{name} disagrees at\n  {(given.split(chr(10)) + [''])[at]}\n  peer:    {expected.split(chr(10))[at]}\n  program: {said[:3000]}")
+            return False
+        done += len(group)
+        print(f"{name}: {done} agree", flush=True)
+    return True
+
+
+def main():
+    words = argparse.ArgumentParser(description=__doc__, formatter_class=argparse.RawDescriptionHelpFormatter)
+    words.add_argument("repository")
+    words.add_argument("--records", type=int, default=5000)
+    words.add_argument("--seed", type=int, default=1)
+    words.add_argument("--bin", action="store_true")
+    words.add_argument("programs", nargs="*")
+    given = words.parse_intermixed_args()
+    names = given.programs or list(programs.PROGRAMS) + ["test_panels"] * (not given.bin)
+    if given.bin:
+        sys.exit(not all([compare(run_bin, given.repository, name, given.seed, given.records) for name in names]))
+    with tempfile.TemporaryDirectory() as scratch:
+        shutil.copy(os.path.join(given.repository, "crates.txt"), scratch)
+        shutil.copytree(os.path.join(given.repository, "crates"), os.path.join(scratch, "crates"))
+        agree = [compare_built(scratch, given.seed, given.records) if name == "test_panels" else
+                 compare(run_try, scratch, name, given.seed, given.records) for name in names]
+        sys.exit(not all(agree))
+
+
+if __name__ == "__main__":
+    main()

@@ -1,0 +1,406 @@
+"""make_cases.py REPOSITORY: writes `stdin` and `stdout` of each test program from one list of cases.
+
+What a program must print is worked out by peer.py, never by the program itself.
+"""
+import os
+import sys
+
+import peer
+import programs
+from peer import Board, Panel
+from random_records import greatest_moment
+
+A, F, H = b"AFH"
+ACROSS, ALONG = 0, 1
+
+# ---------------------------------------------------------------- Panels
+
+# The document's panel G: 30 along, 40 across, 30 along (mm).
+G = Panel(bond=0, rate=65, gap=0, strength=240, moment=3_000, failure_time=0, boards=(),
+          lamellae=((ALONG, 300), (ACROSS, 400), (ALONG, 300)))
+# Its panel that recovers: 10 along, 60 across, 60 along.
+RECOVERS = G._replace(moment=15_000, lamellae=((ALONG, 100), (ACROSS, 600), (ALONG, 600)))
+# The same turned round: the far edge is the outer one.
+TURNED = RECOVERS._replace(lamellae=RECOVERS.lamellae[::-1])
+# 400 mm, all along: it carries more than the greatest moment allowed.
+THICK = G._replace(strength=400, moment=1_000_000, lamellae=((ALONG, 500),) * 8)
+# The shortest and the longest record.
+SHORTEST = G._replace(moment=100, lamellae=((ALONG, 100),))
+LONGEST = G._replace(boards=(Board(A, 125, 100), Board(H, 150, 95)), lamellae=((ALONG, 200), (ACROSS, 300)) * 4 + ((ALONG, 200),))
+
+
+def with_first_lamella(panel, direction, thickness):
+    return panel._replace(lamellae=((direction, thickness),) + panel.lamellae[1:])
+
+
+def summing_to(total):
+    """Nine lamellae along, with this sum."""
+    return G._replace(moment=0, lamellae=((ALONG, 450),) * 8 + ((ALONG, total - 3_600),))
+
+
+def clad(*boards, failure_time=0, gap=0):
+    return G._replace(boards=boards, failure_time=failure_time, gap=gap)
+
+
+def one(kind=A, thickness=125, joint=100, **more):
+    return clad(Board(kind, thickness, joint), **more)
+
+
+def two(outer, inner, **more):
+    return clad(Board(outer, 125, 100), Board(inner, 125, 100), **more)
+
+
+# ---------------------------------------------------------------- Bytes
+
+VERSION, BOND, RATE, GAP, STRENGTH, MOMENT, BOARDS, GIVEN_TIME, FIRST_BOARD = 2, 3, 4, 5, 6, 8, 12, 13, 17
+
+
+def with_length(record):
+    return len(record).to_bytes(2, "big") + record[2:]
+
+
+def patched(record, at, *new):
+    return record[:at] + bytes(new) + record[at + len(new):]
+
+
+g = peer.encode(G)
+board_record = peer.encode(one())
+lamella_count_at = 17  # in a record without boards
+
+# ---------------------------------------------------------------- Cases
+
+
+def panel_cases():
+    """(panel, text): panels that a record can hold, whether accepted or refused."""
+    yield G, "G"
+    for bond in (1, 2, 255):
+        yield G._replace(bond=bond), f"bond {bond}"
+    for gap in (1, 2, 255):
+        yield G._replace(gap=gap), f"gap {gap}"
+    for rate in (0, 49, 50, 100, 101, 255):
+        yield G._replace(rate=rate), f"rate {rate}"
+    for strength in (0, 1, 400, 401, 65_535):
+        yield G._replace(strength=strength, moment=100), f"strength {strength:,}"
+    for moment in (1_000_000, 1_000_001, 2 ** 32 - 1):
+        yield THICK._replace(moment=moment), f"400 mm along, moment {moment:,}"
+    for moment in (0, 43_056, 43_057):
+        yield G._replace(moment=moment), f"G, moment {moment:,}"
+    for name, panel in (("the panel that recovers", RECOVERS), ("that panel turned", TURNED)):
+        most = greatest_moment(panel)
+        for moment in (most, most + 1):
+            yield panel._replace(moment=moment), f"{name}, moment {moment:,}"
+    yield one()._replace(moment=43_057), "G under one board, moment 43,057"
+    yield SHORTEST._replace(moment=1_000_000), "the shortest record, moment 1,000,000"
+    yield from board_cases()
+    yield from failure_time_cases()
+    yield from lamella_cases()
+
+
+def board_cases():
+    for kind in (A, F, H):
+        yield one(kind, failure_time=21_000 if kind == F else 0), f"one board of type {chr(kind)}"
+    for kind, name in ((ord("B"), "B"), (ord("a"), "small a"), (0, "0"), (255, "255")):
+        yield one(kind), f"one board of type {name}"
+    for outer, inner in ((A, A), (H, H), (A, H), (H, A), (F, A), (A, F), (F, H), (H, F)):
+        yield two(outer, inner), f"{chr(outer)} over {chr(inner)}"
+    yield two(F, F, failure_time=49_000), "F over F"
+    yield two(A, ord("O")), "unknown type under A"
+    yield two(ord("P"), A), "unknown type over A"
+    for thickness in (0, 89, 90, 250, 251, 65_535):
+        yield one(thickness=thickness), f"board {thickness:,}"
+        yield clad(Board(H, 125, 100), Board(A, thickness, 100)), f"inner board {thickness:,}"
+    for joint in (0, 1, 100, 101, 255):
+        yield one(joint=joint), f"coefficient {joint}"
+        yield clad(Board(H, 125, joint), Board(A, 125, 100)), f"outer coefficient {joint}"
+
+
+def failure_time_cases():
+    """Around t_ch and 360,000 behind type F; above 0 behind others."""
+    for name, panel in (("one F", one(F)), ("one F 9.0, wide gap", one(F, 90, gap=1)), ("two F", two(F, F)),
+                        ("two F, wide gap", two(F, F, gap=1)),
+                        ("F 25.0 over F 9.0", clad(Board(F, 250, 100), Board(F, 90, 100)))):
+        start = peer.t_ch(panel)
+        for time in (0, start - 1, start, 360_000, 360_001, 2 ** 32 - 1):
+            yield panel._replace(failure_time=time), f"{name}, given {time:,}"
+    for name, panel in (("unclad", G), ("A", one(A)), ("H", one(H)), ("A over H", two(A, H))):
+        for time in (1, peer.t_ch(panel), 2 ** 32 - 1):
+            if time:
+                yield panel._replace(failure_time=time), f"{name}, given {time:,}"
+
+
+def lamella_cases():
+    for thickness in (0, 99, 100, 600, 601, 65_535):
+        yield with_first_lamella(G, ALONG, thickness), f"first lamella {thickness:,}"
+        yield G._replace(lamellae=G.lamellae[:2] + ((ALONG, thickness),)), f"last lamella {thickness:,}"
+    for direction in (2, 255):
+        yield with_first_lamella(G, direction, 300), f"direction {direction}"
+    yield summing_to(4_000), "sum 4,000"
+    yield summing_to(4_001), "sum 4,001"
+    yield G._replace(moment=0, lamellae=((ALONG, 600),) * 9), "nine of 600"
+    yield G._replace(lamellae=((ACROSS, 300),) * 3), "none along"
+    yield G._replace(lamellae=((ACROSS, 300),)), "one lamella, across"
+    yield G._replace(lamellae=((ACROSS, 300),) * 8 + ((ALONG, 300),)), "only the last along"
+    yield SHORTEST, "the shortest record"
+    yield LONGEST, "the longest record"
+    yield RECOVERS, "the panel that recovers"
+    yield G._replace(lamellae=((ALONG, 444),) * 9, strength=400, moment=1_000_000), "nine along, moment 1,000,000"
+
+
+def length_cases():
+    """(record, text): lengths, counts and version."""
+    yield b"", "no bytes"
+    for length in (1, 2, 3, 20):
+        yield with_length(g)[:length], f"cut to {length} bytes"
+    yield with_length(peer.encode(SHORTEST)[:20]), "cut to 20 bytes, length field 20"
+    yield peer.encode(SHORTEST), "21 bytes"
+    yield peer.encode(LONGEST), "53 bytes"
+    yield peer.encode(LONGEST) + b"\0", "54 bytes, length field 53"
+    yield with_length(peer.encode(LONGEST) + b"\0"), "54 bytes, length field 54"
+    yield g[:-1], "one byte short, length field of the whole"
+    yield with_length(g[:-1]), "one byte short, length field right"
+    yield g + b"\0", "one byte more, length field of the record"
+    yield with_length(g + b"\0"), "one byte more, length field right"
+    yield with_length(g + bytes([ALONG, 1, 44])), "one lamella more than counted"
+    yield with_length(g + bytes(75)), "102 bytes, length field right"
+    yield g + bytes(100), "127 bytes"
+    yield patched(g, 0, 1), "length field with a high byte"
+    yield patched(g, 0, 0, 0), "length field 0"
+    yield bytes([0, 21]) + bytes(19), "zeros behind the length"
+    yield bytes([255] * 30), "thirty bytes of 255"
+    for version in (0, 2, 255):
+        yield patched(g, VERSION, version), f"version {version}"
+    yield from board_count_cases()
+    yield from lamella_count_cases()
+
+
+def board_count_cases():
+    for count in (3, 4, 255):
+        yield patched(peer.encode(LONGEST), BOARDS, count), f"{count} boards counted"
+    yield patched(g, BOARDS, 1), "one board counted, none there"
+    yield patched(board_record, BOARDS, 0), "no board counted, one there"
+    for length in (21, 24, 25):
+        yield with_length(patched(g, BOARDS, 1)[:length]), f"one board counted in {length} bytes"
+    for length in (21, 28):
+        yield with_length(patched(peer.encode(two(A, A)), BOARDS, 2)[:length]), f"two boards counted in {length} bytes"
+    # X 9.0 over A 0.9, one lamella: 28 bytes, where two boards and a lamella need 29
+    short = clad(Board(ord("X"), 90, 100), Board(A, 9, 100))._replace(moment=0, lamellae=((ALONG, 100),))
+    yield with_length(peer.encode(short)[:28]), "two boards, unknown type, one byte short"
+
+
+def lamella_count_cases():
+    for count in (0, 1, 2, 4, 10, 255):
+        yield patched(g, lamella_count_at, count), f"{count} lamellae counted, three there"
+    yield with_length(patched(peer.encode(SHORTEST), lamella_count_at, 0)), "no lamella counted, one there"
+    for count in (8, 10):
+        yield patched(peer.encode(G._replace(lamellae=((ALONG, 300),) * 9)), lamella_count_at, count), f"{count} counted, nine there"
+    yield peer.encode(G._replace(lamellae=((ALONG, 300),) * 10)), "ten lamellae"
+    yield peer.encode(G._replace(lamellae=())), "no lamella"
+    bare = G._replace(moment=0, lamellae=((ALONG, 100),))
+    yield patched(peer.encode(bare), lamella_count_at, 2), "two lamellae counted, one there"
+    yield patched(peer.encode(bare._replace(failure_time=1)), lamella_count_at, 2), "two lamellae counted, one there, given 1, unclad"
+
+
+def reading_cases():
+    """(panel, text): panels on which the document can be read two ways; for the record all are accepted."""
+    thin = ((ALONG, 100), (ACROSS, 300), (ALONG, 300))
+    yield Panel(0, 100, 1, 240, 2_799, 0, (Board(H, 150, 1),), ((ACROSS, 145), (ALONG, 400), (ACROSS, 104))), "layer step rounded as a whole"
+    yield Panel(1, 65, 0, 240, 3, 0, (Board(H, 150, 80), Board(A, 180, 80)), ((ACROSS, 162), (ALONG, 144), (ACROSS, 120))), "two roundings in a layer"
+    yield Panel(1, 50, 0, 400, 0, 0, (Board(H, 150, 1),), ((ALONG, 400), (ACROSS, 100))), "coefficient 1, rounded twice"
+    yield Panel(1, 80, 0, 240, 500, 41_000, (Board(F, 125, 100),), ((ALONG, 124),) + thin[1:]), "bond line reached as the board fails"
+    yield Panel(1, 80, 0, 240, 500, 71_000, (Board(F, 125, 100),), ((ALONG, 310),) + thin[1:]), "25 mm charred before the board fails"
+    yield Panel(0, 65, 0, 240, 500, 11_200, (Board(F, 90, 100),), ((ALONG, 600),)), "F fails as charring starts"
+    yield Panel(1, 65, 0, 240, 500, 0, (Board(A, 125, 100),), thin), "bond line before the first run ends"
+    yield Panel(0, 100, 1, 240, 0, 360_000, (Board(F, 90, 100),), ((ALONG, 100),)), "charred through before the board fails"
+
+
+def order_cases():
+    """(record, text): two faults, of which the line further up is said."""
+    no_fault = one(F, failure_time=21_000)
+    yield patched(g[:-1], VERSION, 2), "length and version"
+    yield patched(g, VERSION, 2, 2), "version and bond"
+    yield patched(g, BOND, 2, 49), "bond and rate"
+    yield patched(g, RATE, 49, 2), "rate and gap"
+    yield peer.encode(G._replace(rate=101, strength=0)), "rate and strength"
+    yield peer.encode(G._replace(rate=101, moment=1_000_001)), "rate and moment"
+    yield patched(peer.encode(G._replace(strength=401)), BOARDS, 3), "strength and board count"
+    yield patched(peer.encode(one(ord("B"))), BOARDS, 3), "board count and type"
+    yield peer.encode(one(ord("B"), thickness=89)), "type and board thickness"
+    yield peer.encode(clad(Board(A, 89, 100), Board(F, 125, 100))), "board thickness and pair of types"
+    yield peer.encode(one(F, thickness=251, failure_time=360_001)), "board thickness and failure time"
+    yield peer.encode(one(F, joint=0)), "coefficient and failure time"
+    yield patched(peer.encode(no_fault._replace(failure_time=20_999)), 21, 10), "failure time and lamella count"
+    yield with_length(peer.encode(G._replace(failure_time=1)) + b"\0"), "failure time and length of the lamellae"
+    yield patched(peer.encode(with_first_lamella(G, ALONG, 99)), lamella_count_at, 2), "lamella count and thickness"
+    yield peer.encode(G._replace(lamellae=((ACROSS, 99),))), "lamella thickness and none along"
+    yield peer.encode(G._replace(lamellae=((ACROSS, 500),) * 9)), "sum and none along"
+    yield peer.encode(G._replace(moment=1_000_000, lamellae=((ACROSS, 300),))), "none along and section"
+    yield peer.encode(G._replace(moment=1_000_000, lamellae=((ALONG, 601),))), "lamella thickness and section"
+    yield peer.encode(G._replace(bond=2, moment=43_057)), "bond and section"
+
+
+def record_cases():
+    for panel, text in panel_cases():
+        yield peer.encode(panel), text
+    yield from length_cases()
+    for panel, text in reading_cases():
+        yield peer.encode(panel), text
+    yield from order_cases()
+
+
+def write_cases():
+    """(space, record, text)"""
+    for name, panel in (("G", G), ("the shortest", SHORTEST), ("the longest", LONGEST), ("two F", two(F, F, failure_time=49_000)),
+                        ("400 mm along", THICK)):
+        record = peer.encode(panel)
+        for space in (0, len(record) - 1, len(record), len(record) + 1, 64):
+            yield space, record, f"{name}, {len(record)} bytes into {space}"
+    for space in (0, 20, 21, 64):
+        yield space, b"", f"a blank panel into {space}"
+    yield 64, peer.encode(G._replace(moment=43_057)), "a refused record, so a blank panel"
+    for panel, text in reading_cases():
+        yield 64, peer.encode(panel), text
+
+
+def section_cases():
+    """(depth, record, text)"""
+    for depth in (0, 1, 270, 271, 300, 699, 700, 701, 970, 971, 999, 1000, 1001, 2 ** 32 - 1):
+        yield depth, g, f"G at {depth:,}"
+    for depth in (0, 1):
+        yield depth, peer.encode(G._replace(moment=43_056)), f"G, moment 43,056, at {depth}"
+    yield 0, peer.encode(G._replace(moment=43_057)), "a refused record, so a blank panel"
+    for depth in (0, 69, 70, 71, 99, 100, 700, 701, 1270, 1271):
+        yield depth, peer.encode(RECOVERS), f"the panel that recovers at {depth:,}"
+    turned = TURNED._replace(moment=greatest_moment(TURNED))
+    for depth in (0, 1, 570, 571, 1_200, 1_270, 1_271):
+        yield depth, peer.encode(turned), f"that panel turned, at {depth:,}"
+    for depth in (0, 700, 970, 971, 1000):
+        yield depth, peer.encode(G._replace(moment=0)), f"G, moment 0, at {depth:,}"
+    for depth in (0, 500, 2_000, 3_970, 3_971, 4_000, 4_001):
+        yield depth, peer.encode(THICK), f"400 mm along at {depth:,}"
+    for depth in (0, 70, 71, 100):
+        yield depth, peer.encode(SHORTEST), f"10 mm along at {depth}"
+    across_first = G._replace(lamellae=((ACROSS, 200), (ALONG, 400), (ACROSS, 200)))
+    for depth in (0, 200, 201, 570, 571, 799):
+        yield depth, peer.encode(across_first), f"20 across, 40 along, 20 across at {depth}"
+    for depth in (0, 170, 171, 500, 2_170, 2_171):
+        yield depth, peer.encode(LONGEST), f"nine lamellae at {depth:,}"
+    for panel, text in reading_cases():
+        yield 71, peer.encode(panel), f"{text}, at 71"
+
+
+def build_cases():
+    """(first record, second record, text)"""
+    def pair(a, b, text):
+        return peer.encode(a), peer.encode(b), text
+    clad_g = two(A, H)
+    yield pair(G, G, "the same record twice")
+    yield pair(G, G._replace(bond=1, rate=100, gap=1, strength=400, moment=0), "other load, bond, rate and gap")
+    yield pair(one(F, failure_time=21_000), one(F, failure_time=360_000), "other failure time")
+    yield pair(G, one(), "no board and one")
+    yield pair(one(), clad_g, "one board and two")
+    yield pair(clad_g, G, "two boards and none")
+    yield pair(one(A), one(H), "other type")
+    yield pair(one(thickness=125), one(thickness=126), "other board thickness")
+    yield pair(one(joint=100), one(joint=99), "other coefficient")
+    yield pair(two(A, H), two(H, A), "boards the other way round")
+    yield pair(clad_g, clad_g._replace(boards=(clad_g.boards[0], Board(H, 250, 100))), "other inner board")
+    yield pair(clad_g, clad_g._replace(boards=(Board(A, 250, 100), clad_g.boards[1])), "other outer board")
+    yield pair(G, with_first_lamella(G, ALONG, 301), "other first lamella")
+    yield pair(G, G._replace(lamellae=G.lamellae[:2] + ((ALONG, 299),)), "other last lamella")
+    yield pair(G, G._replace(lamellae=((ALONG, 300), (ALONG, 400), (ALONG, 300))), "other direction")
+    yield pair(G, G._replace(lamellae=G.lamellae[:2]), "a lamella fewer")
+    yield pair(G, G._replace(lamellae=G.lamellae + ((ACROSS, 100),)), "a lamella more")
+    yield pair(LONGEST, LONGEST._replace(moment=0), "two boards and nine lamellae, other moment")
+    yield pair(RECOVERS, TURNED, "turned round")
+    yield b"", g, "a blank panel first"
+    yield g, b"", "a blank panel second"
+    yield b"", b"", "two blank panels"
+    yield pair(G, G._replace(moment=43_057), "the second refused, so blank")
+
+
+# ---------------------------------------------------------------- test_panels
+# The panels that the program builds itself, in its order. Unused places have no counterpart here, and a count of ten or more stands
+# as ten lamellae.
+
+def built_panels():
+    yield G, "G"
+    yield G._replace(bond=255), "bond 255"
+    yield G._replace(gap=2), "gap 2"
+    yield G._replace(rate=255), "rate 255"
+    yield G._replace(strength=65_535), "strength 65,535"
+    for moment in (2 ** 32 - 1, 43_057, 43_056):
+        yield G._replace(moment=moment), f"moment {moment:,}"
+    yield one(ord("B")), "unknown type B"
+    yield one(0), "type 0"
+    yield two(H, ord("f")), "unknown type f under H"
+    yield two(F, A, failure_time=49_000), "F over A"
+    yield two(A, F), "F under A"
+    yield two(H, F), "F under H"
+    yield two(A, H), "A over H"
+    yield two(F, F, failure_time=49_000), "F over F"
+    yield two(F, F, failure_time=48_999), "F over F, failure before charring"
+    yield one(thickness=65_535), "board thickness 65,535"
+    yield one(H, joint=255), "joint coefficient 255"
+    yield one(F, failure_time=2 ** 32 - 1), "failure time 4,294,967,295 of F"
+    yield clad(failure_time=2 ** 32 - 1), "failure time 4,294,967,295, unclad"
+    yield clad(*(Board(F, 65_535, 255),) * 2, failure_time=2 ** 32 - 1), "two F at their greatest"
+    yield G._replace(lamellae=()), "count 0"
+    for count in ("10", "18,446,744,073,709,551,615"):
+        yield G._replace(lamellae=((ALONG, 300),) * 10), f"count {count}"
+    yield G._replace(lamellae=((ALONG, 400),) * 9), "count 9, arrays full"
+    yield G._replace(lamellae=((ALONG, 445),) * 9), "count 9, sum 4,005"
+    yield G._replace(lamellae=((ALONG, 65_535),) * 9), "nine lamellae of 65,535"
+    yield G._replace(lamellae=((ALONG, 65_535),)), "one lamella of 65,535"
+    yield G._replace(lamellae=((255, 300), (255, 400), (255, 300))), "direction 255"
+    yield G._replace(lamellae=((ACROSS, 300), (ACROSS, 400), (ACROSS, 300))), "all across"
+    yield G._replace(lamellae=((ALONG, 0), (ACROSS, 0), (ALONG, 0))), "thickness 0"
+
+
+def refusals_line(panel, text):
+    number = peer.panel_refusal(panel)
+    return f"{number} {number} {number} {number} {number} {text}\n"
+
+
+def space_line(panel, text):
+    filled = bytes([programs.FILLED] * programs.SPACE)
+    return f"{peer.write(panel, filled)[1].hex()} {text}\n"
+
+
+def built_lines():
+    for panel, text in built_panels():
+        yield refusals_line(panel, text)
+    yield refusals_line(G, "unused places full")
+    yield space_line(G, "record of the panel with unused places full")
+    yield space_line(G, "record of the panel with unused places 0")
+    yield f"{programs.build_answer(G, G)} unused places full and 0\n"
+    yield refusals_line(G._replace(lamellae=G.lamellae + ((255, 65_535),)), "a full place used")
+    greatest = Panel(255, 255, 255, 65_535, 2 ** 32 - 1, 2 ** 32 - 1, (Board(255, 65_535, 255),) * 2, ((255, 65_535),) * 10)
+    yield refusals_line(greatest, "all fields at their greatest")
+    yield space_line(greatest, "space after all fields at their greatest")
+
+
+# ---------------------------------------------------------------- Files
+
+CASES = {"test_records": record_cases, "test_writes": write_cases, "test_sections": section_cases, "test_builds": build_cases}
+
+
+def store(repository, name, file, text):
+    with open(os.path.join(repository, "crates", name, file), "w") as out:
+        out.write(text)
+
+
+def main(repository):
+    for name, cases in CASES.items():
+        cases = list(cases())
+        given, expected = programs.lines(name, cases)
+        assert len(given) <= 65_536 and len(set(given.split("\n"))) == len(cases) + 1, f"{name}: too long, or a case twice"
+        store(repository, name, "stdin", given)
+        store(repository, name, "stdout", expected)
+        print(f"{name}: {len(cases)} cases, {len(given)} bytes")
+    built = list(built_lines())
+    store(repository, "test_panels", "stdout", "".join(built))
+    print(f"test_panels: {len(built)} lines")
+
+
+if __name__ == "__main__":
+    main(sys.argv[1])

@@ -1,0 +1,259 @@
+"""The CLT fire card in exact whole-number arithmetic, written from document 01 alone.
+
+A peer of the Rattle code: it shares no line with it, and the two are compared on the same records.
+Lengths are in tenths of mm, times in thousandths of a minute, unless a name says otherwise.
+The parts stand in the order of the document's sections.
+"""
+from typing import NamedTuple
+
+# ---------------------------------------------------------------- The panel record
+
+ALONG = 1
+TYPES = b"AFH"
+TYPE_F = ord("F")
+
+
+class Board(NamedTuple):
+    kind: int       # the ASCII letter
+    thickness: int  # tenths of mm
+    joint: int      # joint coefficient, hundredths
+
+
+class Panel(NamedTuple):
+    bond: int          # 0 holds, 1 falls
+    rate: int          # hundredths of mm/min
+    gap: int           # 0 filled or at most 2 mm, 1 wider
+    strength: int      # tenths of N/mm2
+    moment: int        # N.m per metre of width
+    failure_time: int  # the given one, thousandths of a minute
+    boards: tuple      # none, one or two, outer first
+    lamellae: tuple    # pairs (direction, thickness), from the exposed face
+
+
+# What stands beside a refusal: every number 0, no board, no lamella.
+BLANK = Panel(0, 0, 0, 0, 0, 0, (), ())
+
+HEAD = 17  # bytes before the first board
+
+
+def number(data, at, width):
+    """The big-endian number of `width` bytes at `at`."""
+    return int.from_bytes(data[at:at + width], "big")
+
+
+def record_length(boards, lamellae):
+    return 18 + 4 * boards + 3 * lamellae
+
+
+def board_at(data, at):
+    return Board(data[at], number(data, at + 1, 2), data[at + 3])
+
+
+def lamella_at(data, at):
+    return (data[at], number(data, at + 1, 2))
+
+
+def encode(panel):
+    """The record of a panel whose numbers fit their fields."""
+    boards, lamellae = panel.boards, panel.lamellae
+    out = record_length(len(boards), len(lamellae)).to_bytes(2, "big")
+    out += bytes([1, panel.bond, panel.rate, panel.gap])
+    out += panel.strength.to_bytes(2, "big") + panel.moment.to_bytes(4, "big")
+    out += bytes([len(boards)]) + panel.failure_time.to_bytes(4, "big")
+    for board in boards:
+        out += bytes([board.kind]) + board.thickness.to_bytes(2, "big") + bytes([board.joint])
+    out += bytes([len(lamellae)])
+    for direction, thickness in lamellae:
+        out += bytes([direction]) + thickness.to_bytes(2, "big")
+    return out
+
+
+def same_build(a, b):
+    """Boards and lamellae agree, in order."""
+    return a.boards == b.boards and a.lamellae == b.lamellae
+
+
+# ---------------------------------------------------------------- Where a record is turned back
+# Each line is a function that says whether its cause fits; the numbers are the document's.
+
+def bad_switches(bond, gap):  # 3
+    return bond > 1 or gap > 1
+
+
+def bad_rate(rate):  # 4
+    return not 50 <= rate <= 100
+
+
+def bad_load(strength, moment):  # 5
+    return not 1 <= strength <= 400 or moment > 1_000_000
+
+
+def bad_types(boards):  # 7
+    kinds = [board.kind for board in boards]
+    if any(kind not in TYPES for kind in kinds):
+        return True
+    return TYPE_F in kinds and any(kind != TYPE_F for kind in kinds)
+
+
+def bad_boards(boards):  # 8
+    return any(not 90 <= board.thickness <= 250 or not 1 <= board.joint <= 100 for board in boards)
+
+
+def bad_failure_time(panel):  # 9
+    if is_type_f(panel.boards):
+        return not t_ch(panel) <= panel.failure_time <= 360_000
+    return panel.failure_time != 0
+
+
+def bad_count(count):  # 10, but for the length
+    return not 1 <= count <= 9
+
+
+def bad_lamellae(lamellae):  # 11
+    if any(direction > 1 or not 100 <= thickness <= 600 for direction, thickness in lamellae):
+        return True
+    return thickness_of(lamellae) > 4_000
+
+
+def none_along(lamellae):  # 12
+    return all(direction != ALONG for direction, _ in lamellae)
+
+
+def panel_refusal(panel):
+    """The first of lines 3 to 13 that fits the panel, or 0. Lines 6 and 10 speak of counts only: a panel has no length."""
+    if bad_switches(panel.bond, panel.gap):
+        return 3
+    if bad_rate(panel.rate):
+        return 4
+    if bad_load(panel.strength, panel.moment):
+        return 5
+    if len(panel.boards) > 2:
+        return 6
+    if bad_types(panel.boards):
+        return 7
+    if bad_boards(panel.boards):
+        return 8
+    if bad_failure_time(panel):
+        return 9
+    if bad_count(len(panel.lamellae)):
+        return 10
+    if bad_lamellae(panel.lamellae):
+        return 11
+    if none_along(panel.lamellae):
+        return 12
+    if not depth_passes(panel, 0):
+        return 13
+    return 0
+
+
+def decode(data):
+    """(refusal, panel): refusal 0 and the panel of the record, or the first of lines 1 to 13 that fits and BLANK."""
+    if not 21 <= len(data) <= 53 or number(data, 0, 2) != len(data):
+        return 1, BLANK
+    if data[2] != 1:
+        return 2, BLANK
+    bond, rate, gap = data[3], data[4], data[5]
+    strength, moment = number(data, 6, 2), number(data, 8, 4)
+    if bad_switches(bond, gap):
+        return 3, BLANK
+    if bad_rate(rate):
+        return 4, BLANK
+    if bad_load(strength, moment):
+        return 5, BLANK
+    board_count, failure_time = data[12], number(data, 13, 4)
+    if board_count > 2 or len(data) < 21 + 4 * board_count:
+        return 6, BLANK
+    boards = tuple(board_at(data, HEAD + 4 * i) for i in range(board_count))
+    panel = Panel(bond, rate, gap, strength, moment, failure_time, boards, ())
+    if bad_types(boards):
+        return 7, BLANK
+    if bad_boards(boards):
+        return 8, BLANK
+    if bad_failure_time(panel):
+        return 9, BLANK
+    count_at = HEAD + 4 * board_count
+    count = data[count_at]
+    if bad_count(count) or len(data) != record_length(board_count, count):
+        return 10, BLANK
+    part = data[count_at + 1:]
+    panel = panel._replace(lamellae=tuple(lamella_at(part, 3 * i) for i in range(count)))
+    if bad_lamellae(panel.lamellae):
+        return 11, BLANK
+    if none_along(panel.lamellae):
+        return 12, BLANK
+    if not depth_passes(panel, 0):
+        return 13, BLANK
+    return 0, panel
+
+
+def write(panel, space):
+    """(answer, space after): ("written", K) or ("refused", N), and what the lent bytes hold then."""
+    refusal = panel_refusal(panel)
+    if refusal:
+        return ("refused", refusal), space
+    record = encode(panel)
+    if len(space) < len(record):
+        return ("refused", 14), space
+    return ("written", len(record)), record + space[len(record):]
+
+
+# ---------------------------------------------------------------- Charring
+
+def is_type_f(boards):
+    """F stands alone or with F, so the outer board tells."""
+    return len(boards) > 0 and boards[0].kind == TYPE_F
+
+
+def t_ch(panel):
+    """The start of charring, thousandths of a minute."""
+    boards = panel.boards
+    if not boards:
+        return 0
+    less = 23_000 if panel.gap == 1 else 14_000
+    if len(boards) == 1:
+        return 280 * boards[0].thickness - less
+    inner = 224 if is_type_f(boards) else 140
+    return 280 * boards[0].thickness + inner * boards[1].thickness - less
+
+
+# ---------------------------------------------------------------- Remaining section
+
+SMALLEST_REMAINDER = 30  # 3.0 mm
+
+
+def thickness_of(lamellae):
+    return sum(thickness for _, thickness in lamellae)
+
+
+def counted_parts(lamellae, depth):
+    """The parts (a, b), tenths of mm from the exposed face, that count at a depth."""
+    parts, top = [], 0
+    for direction, thickness in lamellae:
+        bottom = top + thickness
+        start = max(top, depth)
+        if direction == ALONG and bottom - start >= SMALLEST_REMAINDER:
+            parts.append((start, bottom))
+        top = bottom
+    return parts
+
+
+def sums(parts):
+    """N, P, Q and the outermost ends lo, hi; all 0 where nothing is counted."""
+    if not parts:
+        return 0, 0, 0, 0, 0
+    n = sum(b - a for a, b in parts)
+    p = sum(b ** 2 - a ** 2 for a, b in parts)
+    q = sum(b ** 3 - a ** 3 for a, b in parts)
+    return n, p, q, min(a for a, _ in parts), max(b for _, b in parts)
+
+
+def section(panel, depth):
+    """(N, P, Q, lo, hi, passes) at a depth in whole tenths of mm."""
+    n, p, q, lo, hi = sums(counted_parts(panel.lamellae, depth))
+    edge = max(p - 2 * n * lo, 2 * n * hi - p)
+    carried = 120_000 * panel.moment * edge <= 23 * panel.strength * (4 * n * q - 3 * p ** 2)
+    return n, p, q, lo, hi, n > 0 and carried
+
+
+def depth_passes(panel, depth):
+    return section(panel, depth)[5]

@@ -1,0 +1,146 @@
+"""Random panel records for comparing runs. The same seed gives the same records.
+
+Half are within the limits of document 01, with weight on the limits' ends; the others have a field at or past a limit, or
+are damaged: cut short, made longer, one byte changed, or no record at all.
+"""
+import random
+
+import peer
+from peer import Board, Panel
+
+
+def end_or_between(rng, low, high):
+    """A number from low to high: half of the time one of the two ends or beside one."""
+    if rng.random() < 0.5:
+        return min(high, max(low, rng.choice([low, low + 1, high - 1, high])))
+    return rng.randint(low, high)
+
+
+def random_boards(rng):
+    count = rng.choice([0, 1, 1, 2, 2])
+    kinds = b"F" if rng.random() < 0.4 else b"AH"
+    return tuple(Board(rng.choice(kinds), end_or_between(rng, 90, 250), end_or_between(rng, 1, 100)) for _ in range(count))
+
+
+def random_lamellae(rng):
+    """One to nine lamellae of 100 to 600 tenths of mm, at most 4,000 together, at least one along."""
+    count = end_or_between(rng, 1, 9)
+    thicknesses = [end_or_between(rng, 100, 600) for _ in range(count)]
+    while sum(thicknesses) > 4_000:
+        i = rng.randrange(count)
+        thicknesses[i] = max(100, thicknesses[i] - (sum(thicknesses) - 4_000))
+    directions = [rng.randint(0, 1) for _ in range(count)]
+    directions[rng.randrange(count)] = 1
+    return tuple(zip(directions, thicknesses))
+
+
+def greatest_moment(panel):
+    """The greatest moment at which depth 0 passes, or 0 where there is none."""
+    n, p, q, lo, hi, _ = peer.section(panel, 0)
+    edge = max(p - 2 * n * lo, 2 * n * hi - p)
+    return 23 * panel.strength * (4 * n * q - 3 * p ** 2) // (120_000 * edge) if edge else 0
+
+
+def random_panel(rng):
+    """A panel within the limits."""
+    panel = Panel(rng.randint(0, 1), end_or_between(rng, 50, 100), rng.randint(0, 1), end_or_between(rng, 1, 400), 0, 0,
+                  random_boards(rng), random_lamellae(rng))
+    if peer.is_type_f(panel.boards):
+        panel = panel._replace(failure_time=end_or_between(rng, peer.t_ch(panel), 360_000))
+    return panel._replace(moment=end_or_between(rng, 0, min(1_000_000, greatest_moment(panel))))
+
+
+def with_board(panel, i, **changes):
+    boards = list(panel.boards)
+    boards[i] = boards[i]._replace(**changes)
+    return panel._replace(boards=tuple(boards))
+
+
+def with_lamella(panel, i, direction, thickness):
+    lamellae = list(panel.lamellae)
+    lamellae[i] = (direction, thickness)
+    return panel._replace(lamellae=tuple(lamellae))
+
+
+def at_a_limit(rng, panel):
+    """The panel with one field at a limit or one past it."""
+    field = rng.choice(["bond", "gap", "rate", "strength", "moment", "carried", "failure_time", "kind", "board", "joint",
+                        "lamella", "sum", "direction", "along"])
+    board = rng.randrange(len(panel.boards)) if panel.boards else None
+    lamella = rng.randrange(len(panel.lamellae))
+    if field in ("bond", "gap"):
+        return panel._replace(**{field: rng.choice([0, 1, 2, 255])})
+    if field == "rate":
+        return panel._replace(rate=rng.choice([0, 49, 50, 100, 101, 255]))
+    if field == "strength":
+        return panel._replace(strength=rng.choice([0, 1, 400, 401, 65535]))
+    if field == "moment":
+        return panel._replace(moment=rng.choice([0, 1_000_000, 1_000_001, 2 ** 32 - 1]))
+    if field == "carried":
+        return panel._replace(moment=min(greatest_moment(panel) + rng.randint(0, 1), 2 ** 32 - 1))
+    if field == "failure_time":
+        start = max(1, peer.t_ch(panel))
+        return panel._replace(failure_time=rng.choice([0, 1, start - 1, start, 360_000, 360_001]))
+    if field == "kind" and board is not None:
+        return with_board(panel, board, kind=rng.choice(b"AFHBGfh\0\xff"))
+    if field == "board" and board is not None:
+        return with_board(panel, board, thickness=rng.choice([0, 89, 90, 250, 251, 65535]))
+    if field == "joint" and board is not None:
+        return with_board(panel, board, joint=rng.choice([0, 1, 100, 101, 255]))
+    if field == "lamella":
+        return with_lamella(panel, lamella, panel.lamellae[lamella][0], rng.choice([0, 99, 100, 600, 601, 65535]))
+    if field == "sum":
+        total = rng.choice([4_000, 4_001])
+        count = rng.randint(7, 9)
+        parts = [total // count + (1 if i < total % count else 0) for i in range(count)]
+        return panel._replace(lamellae=tuple((rng.randint(0, 1), part) for part in parts))
+    if field == "direction":
+        return with_lamella(panel, lamella, rng.choice([0, 1, 2, 255]), panel.lamellae[lamella][1])
+    return panel._replace(lamellae=tuple((0, thickness) for _, thickness in panel.lamellae))
+
+
+def with_length(record):
+    """The record with its own length in the length field."""
+    return len(record).to_bytes(2, "big") + record[2:]
+
+
+def damaged(rng, record):
+    """The record cut short, made longer, with a byte changed, or something else in its place."""
+    way = rng.randrange(8)
+    if way == 0:
+        return record[:rng.randrange(len(record))]
+    if way == 1:
+        return with_length(record[:rng.randrange(2, len(record))])
+    if way == 2:
+        return record + rng.randbytes(rng.randint(1, 40))
+    if way == 3:
+        return with_length(record + rng.randbytes(rng.randint(1, 40)))
+    if way == 4:
+        at = rng.randrange(len(record))
+        return record[:at] + bytes([rng.randrange(256)]) + record[at + 1:]
+    if way == 5:  # the count of boards or of lamellae changed
+        at = rng.choice([12, 17 + 4 * record[12]])
+        return record[:at] + bytes([rng.choice([0, 1, 2, 3, 9, 10, 255])]) + record[at + 1:]
+    if way == 6:
+        return rng.randbytes(rng.randint(0, 128))
+    return with_length(b"\0\0\1" + rng.randbytes(rng.randint(18, 50)))
+
+
+def random_record(rng):
+    """The bytes of one record, within the limits, at a limit or damaged. At most 128 bytes."""
+    panel = random_panel(rng)
+    if rng.random() < 0.5:
+        return peer.encode(panel)
+    if rng.random() < 0.5:
+        return peer.encode(at_a_limit(rng, panel))
+    return damaged(rng, peer.encode(panel))[:128]
+
+
+def records(seed, count):
+    rng = random.Random(seed)
+    return [random_record(rng) for _ in range(count)]
+
+
+if __name__ == "__main__":
+    from collections import Counter
+    print(sorted(Counter(peer.decode(record)[0] for record in records(1, 20_000)).items()))
