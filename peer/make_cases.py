@@ -377,6 +377,11 @@ def built_lines():
     greatest = Panel(255, 255, 255, 65_535, 2 ** 32 - 1, 2 ** 32 - 1, (Board(255, 65_535, 255),) * 2, ((255, 65_535),) * 10)
     yield refusals_line(greatest, "all fields at their greatest")
     yield space_line(greatest, "space after all fields at their greatest")
+    a, f = Board(A, 125, 100), Board(F, 125, 100)
+    for gap, boards, text in (
+            (0, (), "unclad"), (0, (a,), "of A 12.5"), (1, (a,), "of A 12.5, wide gap"), (0, (a, a), "of two A 12.5"),
+            (0, (f, f), "of two F 12.5"), (1, (f, f), "of two F 12.5, wide gap"), (1, (Board(H, 90, 100),), "of H 9.0, wide gap")):
+        yield f"{peer.t_ch(G._replace(gap=gap, boards=boards))} t_ch {text}\n"
 
 
 # ---------------------------------------------------------------- Files

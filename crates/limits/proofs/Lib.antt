@@ -2,3 +2,4 @@ pub mod Accepted
 pub mod FirstLine
 pub mod Tests
 pub mod Unused
+pub mod Worked

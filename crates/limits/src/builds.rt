@@ -80,7 +80,7 @@ fn same_lamellae(a: Panel, b: Panel, count: usize) -> bool
 }
 
 // No open call: both panels must keep the limit of line 10.
-pub fn is_same_build(a: Panel, b: Panel) -> bool
+pub(crate) fn is_same_build(a: Panel, b: Panel) -> bool
     requires { ⌜ (a .count ≤ 9) × (b .count ≤ 9) ⌝ }
     ensures { λ r. ⌜ r ≡ sameBuild a b ⌝ }
 {

@@ -13,19 +13,19 @@ ghost use Prim.Native.Nat.{ℕ, _≤_};
 ghost use Rattle.panel.specs.Lamellae.{lamella, lamellaeOf, along, thickness};
 ghost use Rattle.limits.specs.Causes.{badBondOrGap, badRate, badLoad, badTypes, badBoard, badBoards, badFailureTime, badCount, badLamella, some};
 
-pub fn bad_bond_or_gap(p: Panel) -> bool
+pub(crate) fn bad_bond_or_gap(p: Panel) -> bool
     ensures { λ r. ⌜ r ≡ badBondOrGap p ⌝ }
 {
     (1 < p.bond) | (1 < p.gap)
 }
 
-pub fn bad_rate(p: Panel) -> bool
+pub(crate) fn bad_rate(p: Panel) -> bool
     ensures { λ r. ⌜ r ≡ badRate p ⌝ }
 {
     (p.rate < 50) | (100 < p.rate)
 }
 
-pub fn bad_load(p: Panel) -> bool
+pub(crate) fn bad_load(p: Panel) -> bool
     ensures { λ r. ⌜ r ≡ badLoad p ⌝ }
 {
     (p.strength < 1) | (400 < p.strength) | (1000000 < p.moment)
@@ -39,7 +39,7 @@ fn bad_pair(outer: Board, inner: Board) -> bool
     !is_known(outer) | !is_known(inner) | (f & !g) | (!f & g)
 }
 
-pub fn bad_types(c: Cladding) -> bool
+pub(crate) fn bad_types(c: Cladding) -> bool
     ensures { λ r. ⌜ r ≡ badTypes c ⌝ }
 {
     match c {
@@ -55,7 +55,7 @@ fn bad_board(b: Board) -> bool
     ((b.thickness < 90) | (250 < b.thickness)) | ((b.joint < 1) | (100 < b.joint))
 }
 
-pub fn bad_boards(c: Cladding) -> bool
+pub(crate) fn bad_boards(c: Cladding) -> bool
     ensures { λ r. ⌜ r ≡ badBoards c ⌝ }
 {
     match c {
@@ -65,7 +65,7 @@ pub fn bad_boards(c: Cladding) -> bool
     }
 }
 
-pub fn bad_failure_time(p: Panel) -> bool
+pub(crate) fn bad_failure_time(p: Panel) -> bool
     ensures { λ r. ⌜ r ≡ badFailureTime p ⌝ }
 {
     let c = p.cladding;
@@ -87,7 +87,7 @@ fn bad_lamella(direction: u8, thickness: u16) -> bool
 }
 
 // No open call: the count must be at most 9.
-pub fn some_bad_lamella(directions: [u8; 9], thicknesses: [u16; 9], count: usize) -> bool
+pub(crate) fn some_bad_lamella(directions: [u8; 9], thicknesses: [u16; 9], count: usize) -> bool
     requires { ⌜ count ≤ 9 ⌝ }
     ensures { λ r. ⌜ r ≡ some badLamella (lamellaeOf directions thicknesses count) ⌝ }
 {
@@ -101,7 +101,7 @@ pub fn some_bad_lamella(directions: [u8; 9], thicknesses: [u16; 9], count: usize
 }
 
 // The thickness of the first lamellae, whatever their directions. No open call: the count must be at most 9.
-pub fn total_thickness(thicknesses: [u16; 9], count: usize) -> u32
+pub(crate) fn total_thickness(thicknesses: [u16; 9], count: usize) -> u32
     requires { ⌜ count ≤ 9 ⌝ }
     ensures { λ r. ⌜ ((gs : List ℕ) → r ≡ thickness (lamellaeOf gs thicknesses count)) ⌝ }
 {
@@ -115,7 +115,7 @@ pub fn total_thickness(thicknesses: [u16; 9], count: usize) -> u32
 }
 
 // Whether one of the first lamellae is along, whatever their thicknesses. No open call: the count must be at most 9.
-pub fn some_along(directions: [u8; 9], count: usize) -> bool
+pub(crate) fn some_along(directions: [u8; 9], count: usize) -> bool
     requires { ⌜ count ≤ 9 ⌝ }
     ensures { λ r. ⌜ ((ts : List ℕ) → r ≡ some along (lamellaeOf directions ts count)) ⌝ }
 {

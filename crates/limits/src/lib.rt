@@ -1,6 +1,6 @@
 // Where a panel is turned back: lines 3 to 13 of document 01's table, and the open calls that need nothing more than a panel
 // that keeps them. Every later call checks its panel by `calls::panel_refusal`.
-pub mod builds;
+mod builds;
 pub mod calls;
 pub mod causes;
 pub mod groups;

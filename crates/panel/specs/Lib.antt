@@ -1,3 +1,4 @@
 pub mod Lamellae
 pub mod Boards
 pub mod Builds
+pub mod Worked

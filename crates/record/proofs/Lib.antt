@@ -7,3 +7,4 @@ pub mod RoundTrips
 pub mod Sound
 pub mod There
 pub mod Unused
+pub mod Worked

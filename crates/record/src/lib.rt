@@ -1,8 +1,8 @@
 // The panel record of document 01: its layout, the reader and the writer, and the lines that turn a record back.
 pub mod calls;
-pub mod lines;
-pub mod reader;
-pub mod writer;
+mod lines;
+mod reader;
+mod writer;
 
 use panel::Panel;
 

@@ -60,7 +60,7 @@ fn upper_refusal(s: &[u8], p: Panel) -> u8
 
 // Lines 1 to 13 of a record in which p stands: the number of the first that fits, or 0. No open call: p's count must be the
 // record's.
-pub fn record_refusal(s: &[u8], p: Panel) -> u8
+pub(crate) fn record_refusal(s: &[u8], p: Panel) -> u8
     requires { ⌜ p .count ≡ lamellaCount (now s) ⌝ }
     ensures { λ r. ⌜ r ≡ refusal (recordLines (now (s .entry)) p) ⌝ }
 {

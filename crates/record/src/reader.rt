@@ -16,14 +16,14 @@ ghost use Rattle.numbers.specs.Bytes.{fields};
 ghost use Rattle.record.specs.Layouts.{boardWidths, boardCount, lamellaCount, boardFrom, claddingAt, lamellaeIn, arraysOf, recordLamellae, panelOf};
 
 // c, the number of boards.
-pub fn board_count(s: &[u8]) -> usize
+pub(crate) fn board_count(s: &[u8]) -> usize
     ensures { λ r. ⌜ (r ≡ boardCount (now (s .entry))) × (r < 256) ⌝ }
 {
     wide(get8(part_from(s, 3), 9)) as usize
 }
 
 // n, the number of lamellae.
-pub fn lamella_count(s: &[u8]) -> usize
+pub(crate) fn lamella_count(s: &[u8]) -> usize
     ensures { λ r. ⌜ (r ≡ lamellaCount (now (s .entry))) × (r < 256) ⌝ }
 {
     let at = 17 + 4 * board_count(s);
@@ -81,7 +81,7 @@ fn lamellae_of(s: &[u8]) -> Lamellae
     lamellae_in(part_from(s, from), n)
 }
 
-pub fn panel_of(s: &[u8]) -> Panel
+pub(crate) fn panel_of(s: &[u8]) -> Panel
     ensures { λ r. ⌜ r ≡ panelOf (now (s .entry)) ⌝ }
 {
     let t = part_from(s, 3);

@@ -104,7 +104,7 @@ fn put_tail(out: &mut [u8], at: usize, p: Panel)
 }
 
 // The length of a panel's record. No open call: the count must be at most 9.
-pub fn record_length(p: Panel) -> usize
+pub(crate) fn record_length(p: Panel) -> usize
     requires { ⌜ p .count ≤ 9 ⌝ }
     ensures { λ r. ⌜ (r ≡ recordLength p) × (r ≤ 53) ⌝ }
 {
@@ -113,7 +113,7 @@ pub fn record_length(p: Panel) -> usize
 }
 
 // Stores a panel's record at the start of the space. No open call: the count must be at most 9, and the record must fit.
-pub fn put_record(out: &mut [u8], p: Panel)
+pub(crate) fn put_record(out: &mut [u8], p: Panel)
     requires { ⌜ (p .count ≤ 9) × (recordLength p ≤ length (now out)) ⌝ }
     ensures { λ _. ⌜ now (out .exit) ≡ sets (now (out .entry)) 0 (encode p) ⌝ }
 {

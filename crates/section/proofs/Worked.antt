@@ -1,39 +1,12 @@
 -- Document 01, "Panels worked through", the section test: the starred lines, by computation, and that both panels keep the
 -- limits which the functions require. Assumes nothing.
-use Prim.Native.Nat.{ℕ}
 use mathlib.Core.Path.{_≡_, refl}
 use mathlib.Core.Bool.{true, false}
-use mathlib.Core.List.{List, [], _∷_}
 use native.Mathlib.Omega.{arith}
-use Rattle.panel.specs.declared.Panel.{Panel}
-use Rattle.panel.specs.declared.Cladding.the-variants.{Unclad}
-use Rattle.panel.specs.Lamellae.{lamellaeOf, nine, thickness}
+use Rattle.panel.specs.Lamellae.{lamellaeOf, thickness}
+use Rattle.panel.specs.Worked.{g, recovers}
 use Rattle.section.specs.Sections.{countedFrom, total, lowest, highest, sectionOf}
 use Rattle.section.specs.Tests.{carries, sectionAt, depthPasses, SectionFits}
-
--- three lamellae with f 240, β 65, unclad, gap 0, bond holds; the moment is open
-abbrev pub three : List ℕ → List ℕ → ℕ → Panel
-three directions thicknesses m =
-    record {
-      bond = 0;
-      rate = 65;
-      gap = 0;
-      strength = 240;
-      moment = m;
-      «failure_time» = 0;
-      cladding = Unclad;
-      count = 3;
-      directions = nine directions;
-      thicknesses = nine thicknesses;
-    }
-
--- "G is 30 along, 40 across, 30 along (mm)"
-abbrev pub g : ℕ → Panel
-g = three (1 ∷ 0 ∷ 1 ∷ []) (300 ∷ 400 ∷ 300 ∷ [])
-
--- "10 along, 60 across, 60 along, f 240, M 15,000"
-abbrev pub recovers : Panel
-recovers = three (1 ∷ 0 ∷ 1 ∷ []) (100 ∷ 600 ∷ 600 ∷ []) 15000
 
 -- both panels keep the limits
 pub g-fits : SectionFits (g 3000)

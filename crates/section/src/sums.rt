@@ -77,7 +77,12 @@ fn with_lamella(s: Section, depth: u64, top: u64, direction: u8, thick: u16) -> 
 }
 
 // No open call: the limits of lines 10 and 11 must hold.
-pub fn section_of(directions: [u8; 9], thicknesses: [u16; 9], count: usize, depth: u32) -> Section
+pub(crate) fn section_of(
+    directions: [u8; 9],
+    thicknesses: [u16; 9],
+    count: usize,
+    depth: u32,
+) -> Section
     requires { ⌜ count ≤ 9 ⌝ }
     requires { ⌜ thickness (lamellaeOf directions thicknesses count) ≤ 4000 ⌝ }
     ensures { λ r. ⌜ r ≡ sectionOf (counted depth (lamellaeOf directions thicknesses count)) ⌝ }

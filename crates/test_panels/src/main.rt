@@ -227,10 +227,33 @@ fn print_greatest() {
     print_record(p, b"space after all fields at their greatest");
 }
 
+// t_ch, the start of charring, in thousandths of a minute.
+fn print_start(gap: u8, cladding: Cladding, name: &[u8]) {
+    output::number(panel::boards::charring_start(gap, cladding) as u64);
+    output::end_line(name);
+}
+
+fn print_starts() {
+    let a = board(b'A', 125, 100);
+    let f = board(b'F', 125, 100);
+    print_start(0, Cladding::Unclad, b"t_ch unclad");
+    print_start(0, Cladding::One(a), b"t_ch of A 12.5");
+    print_start(1, Cladding::One(a), b"t_ch of A 12.5, wide gap");
+    print_start(0, Cladding::Two(a, a), b"t_ch of two A 12.5");
+    print_start(0, Cladding::Two(f, f), b"t_ch of two F 12.5");
+    print_start(1, Cladding::Two(f, f), b"t_ch of two F 12.5, wide gap");
+    print_start(
+        1,
+        Cladding::One(board(b'H', 90, 100)),
+        b"t_ch of H 9.0, wide gap",
+    );
+}
+
 fn main() {
     print_loads();
     print_boards();
     print_lamellae();
     print_unused();
     print_greatest();
+    print_starts();
 }

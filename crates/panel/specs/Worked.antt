@@ -1,0 +1,30 @@
+-- Document 01, "Panels worked through": the panels that its starred lines speak of.
+use Prim.Native.Nat.{ℕ}
+use mathlib.Core.List.{List, [], _∷_}
+use Rattle.panel.specs.declared.Cladding.the-variants.{Unclad}
+use Rattle.panel.specs.declared.Panel.{Panel}
+use Rattle.panel.specs.Lamellae.{nine}
+
+-- three lamellae with f 240, β 65, unclad, gap 0, bond holds; the moment is open
+abbrev pub three : List ℕ → List ℕ → ℕ → Panel
+three directions thicknesses m =
+    record {
+      bond = 0;
+      rate = 65;
+      gap = 0;
+      strength = 240;
+      moment = m;
+      «failure_time» = 0;
+      cladding = Unclad;
+      count = 3;
+      directions = nine directions;
+      thicknesses = nine thicknesses;
+    }
+
+-- "G is 30 along, 40 across, 30 along (mm)"
+abbrev pub g : ℕ → Panel
+g = three (1 ∷ 0 ∷ 1 ∷ []) (300 ∷ 400 ∷ 300 ∷ [])
+
+-- "10 along, 60 across, 60 along, f 240, M 15,000"
+abbrev pub recovers : Panel
+recovers = three (1 ∷ 0 ∷ 1 ∷ []) (100 ∷ 600 ∷ 600 ∷ []) 15000
