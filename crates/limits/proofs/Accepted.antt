@@ -20,7 +20,7 @@ use Rattle.panel.specs.Boards.{gapLoss, innerGain, known, isF}
 use Rattle.section.specs.Tests.{SectionFits, depthPasses}
 use Rattle.limits.specs.Lines.{Line, line, NoneFits}
 use Rattle.limits.specs.Causes.{badTypes, badBoard, badBoards, badLamella, badLamellae, noneAlong, badFailureTime, badCount, some}
-use Rattle.limits.specs.Refusals.{headLines, boardLines, lamellaLines, panelLines, panelRefusal, Loaded}
+use Rattle.limits.specs.Refusals.{headLines, panelLines, upperLines, panelRefusal, Loaded}
 use Rattle.limits.proofs.FirstLine.{First, accepted-iff, refusal-first}
 use Rattle.limits.proofs.Tests.{some-more}
 
@@ -36,10 +36,6 @@ in-range least greatest x e =
     (ltb-false x least (h .0), ltb-false greatest x (h .1))
 
 -- Lines that do not fit
-
--- lines 3 to 10 of a panel
-abbrev pub upperLines : Panel → List Line
-upperLines p = headLines p ++ boardLines p ++ (line 10 (badCount (p .count)) ∷ [])
 
 -- lines 11 and 12
 abbrev pub middleLines : Panel → List Line

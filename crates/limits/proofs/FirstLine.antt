@@ -53,6 +53,17 @@ first-some (l ∷ ls) below ne = go (l .fits) (first-some ls below) ne
     go true rest k = refl
     go false rest k = rest k
 
+-- A table worked out in two steps: n is the refusal of the upper lines, and the lower ones are worked out where it is 0
+
+pub said : (ls : List Line) (below n : ℕ) → n ≡ refusal ls → (n ≡ 0 → ⊥) → n ≡ firstOr ls below
+said ls below n e ne = e ∙ sym (first-some ls below (λ z. ne (e ∙ z)))
+
+pub clear : (ls : List Line) → T (numbered ls) → (n : ℕ) → n ≡ refusal ls → n ≡ 0 → NoneFits ls
+clear ls t n e z = first-none ls t (sym e ∙ z)
+
+pub unsaid : (ls : List Line) → T (numbered ls) → (below n m : ℕ) → n ≡ refusal ls → n ≡ 0 → m ≡ below → m ≡ firstOr ls below
+unsaid ls t below n m e z e′ = e′ ∙ sym (none-first ls (clear ls t n e z) below)
+
 -- a refusal is a line of the table that fits, and none before it does
 pub record First (ls : List Line) (n : ℕ) : Type 0 where
   pub before : List Line

@@ -29,10 +29,13 @@ boardLines p = line 7 (badTypes (p .cladding)) ∷ line 8 (badBoards (p .claddin
 abbrev pub lamellaLines : Panel → List Line
 lamellaLines p = line 11 (badLamellae p) ∷ line 12 (noneAlong p) ∷ line 13 (badSection p) ∷ []
 
--- "The writer checks lines 3 to 13 alike .. so does every other call that is given a panel". A panel has no bytes, so line 6
--- cannot fit, and line 10 is about the count alone.
+-- lines 3 to 10 of a panel, in order. A panel has no bytes, so line 6 cannot fit, and line 10 is about the count alone
+abbrev pub upperLines : Panel → List Line
+upperLines p = headLines p ++ boardLines p ++ (line 10 (badCount (p .count)) ∷ [])
+
+-- "The writer checks lines 3 to 13 alike .. so does every other call that is given a panel"
 abbrev pub panelLines : Panel → List Line
-panelLines p = headLines p ++ boardLines p ++ (line 10 (badCount (p .count)) ∷ []) ++ lamellaLines p
+panelLines p = upperLines p ++ lamellaLines p
 
 -- 0: the panel is accepted
 unfoldable pub panelRefusal : Panel → ℕ

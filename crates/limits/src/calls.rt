@@ -2,11 +2,8 @@
 use crate::BuildAnswer;
 use crate::SectionAnswer;
 use crate::builds::is_same_build;
-use crate::causes::bad_count;
-use crate::groups::boards_or;
-use crate::groups::head_or;
 use crate::groups::lamella_refusal;
-use crate::lines::line_or;
+use crate::groups::upper_refusal;
 use panel::Panel;
 use section::test::section_at;
 use section::test::section_passes;
@@ -18,7 +15,7 @@ ghost use Rattle.limits.specs.Answers.{sectionAnswer, buildAnswer, sameI
 pub fn panel_refusal(p: Panel) -> u8
     ensures { λ r. ⌜ r ≡ panelRefusal p ⌝ }
 {
-    let n = head_or(p, boards_or(p, line_or(10, bad_count(p.count), 0)));
+    let n = upper_refusal(p);
     if n != 0 {
         return n;
     }

@@ -1,6 +1,7 @@
 // Lines 3 to 13 in groups, so that a panel's lines and a record's lines are made of the same pieces.
 use crate::causes::bad_boards;
 use crate::causes::bad_bond_or_gap;
+use crate::causes::bad_count;
 use crate::causes::bad_failure_time;
 use crate::causes::bad_load;
 use crate::causes::bad_rate;
@@ -16,7 +17,7 @@ ghost use mathlib.Core.List.{[], _∷_};
 ghost use Prim.Native.Nat.{_≤_};
 ghost use Rattle.limits.specs.Causes.{badLamellae, noneAlong};
 ghost use Rattle.limits.specs.Lines.{line, firstOr, refusal};
-ghost use Rattle.limits.specs.Refusals.{headLines, boardLines, lamellaLines, Loaded};
+ghost use Rattle.limits.specs.Refusals.{headLines, boardLines, upperLines, lamellaLines, Loaded};
 
 // Lines 3 to 5.
 pub fn head_or(p: Panel, below: u8) -> u8
@@ -39,6 +40,13 @@ pub fn boards_or(p: Panel, below: u8) -> u8
         bad_types(c),
         line_or(8, bad_boards(c), line_or(9, bad_failure_time(p), below)),
     )
+}
+
+// Lines 3 to 10 of a panel.
+pub(crate) fn upper_refusal(p: Panel) -> u8
+    ensures { λ r. ⌜ r ≡ refusal (upperLines p) ⌝ }
+{
+    head_or(p, boards_or(p, line_or(10, bad_count(p.count), 0)))
 }
 
 // Lines 11 and 12. No open call: the count must be at most 9.

@@ -1,7 +1,9 @@
 -- Which places of a panel's arrays its lamellae come from.
-use Prim.Native.Nat.{ℕ, _+_, _-_, _<_}
+use Prim.Native.Nat.{ℕ, zero, suc, _+_, _-_, _<_, _≤_}
 use mathlib.Core.Path.{_≡_, refl, sym, ap, ap₂, _∙_}
 use mathlib.Core.List.{List, [], _∷_, _++_, map}
+use mathlib.Core.Logic.{⊎-elim}
+use native.Mathlib.Nat.{eq-or-lt-of-le}
 use native.Mathlib.Omega.{arith}
 use lib.ListN.{length, getD, length-map, List·getD-append, List·getD-map, replicate}
 use Rattle.numbers.proofs.FirstValues.{length-firsts, firsts-agree, getD-firsts, firsts-getD}
@@ -74,8 +76,25 @@ cleared-same p =
         getD-nine f (lamellae p) i (lamella 0 0) e (omega (arith, length-lamellaeOf (p .directions) (p .thicknesses) (p .count)))
         ∙ ap f (getD-firsts at (p .count) i (lamella 0 0) h)
 
--- the thickness of one lamella more
-pub thickness-more : (ls : List Lamella) (l : Lamella) → thickness (ls ++ (l ∷ [])) ≡ thickness ls + l .thickness
+-- Thickness of runs of lamellae
+
+pub thickness-append : (ls ms : List Lamella) → thickness (ls ++ ms) ≡ thickness ls + thickness ms
 unfolding thickness
-thickness-more [] l = omega arith
-thickness-more (x ∷ ls) l = omega (arith, thickness-more ls l)
+thickness-append [] ms = omega arith
+thickness-append (l ∷ ls) ms = omega (arith, thickness-append ls ms)
+
+-- where a run of lamellae in two arrays ends, with one more
+pub thickness-more : (gs ts : List ℕ) (i : ℕ)
+    → thickness (lamellaeOf gs ts (suc i)) ≡ thickness (lamellaeOf gs ts i) + getD ts i 0
+unfolding lamellaeOf thickness
+thickness-more gs ts i = omega (arith, thickness-append (lamellaeOf gs ts i) (lamella (getD gs i 0) (getD ts i 0) ∷ []))
+
+-- a longer run of lamellae is no thinner
+pub thickness-prefix : (gs ts : List ℕ) (i n : ℕ) → i ≤ n → thickness (lamellaeOf gs ts i) ≤ thickness (lamellaeOf gs ts n)
+thickness-prefix gs ts zero zero h = omega arith
+thickness-prefix gs ts (suc i) zero h = absurd (omega arith)
+thickness-prefix gs ts i (suc n) h =
+    ⊎-elim
+    (λ same. rw same (omega arith))
+    (λ (below : i < suc n). omega (arith, thickness-more gs ts n, thickness-prefix gs ts i n (omega arith)))
+    (eq-or-lt-of-le h)

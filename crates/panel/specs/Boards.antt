@@ -7,7 +7,7 @@ use Rattle.panel.specs.declared.Board.{Board}
 use Rattle.panel.specs.declared.Cladding.{Cladding}
 use Rattle.panel.specs.declared.Cladding.the-variants.{Unclad, One, Two}
 
--- "type A, F or H as its ASCII letter"
+-- "type A, F or H as its ASCII letter": 65, 70 and 72
 abbrev pub known : Board → Bool
 known b = eqb (b .kind) 65 || eqb (b .kind) 70 || eqb (b .kind) 72
 

@@ -40,9 +40,13 @@ lamellaWidths = 1 ∷ 2 ∷ []
 abbrev pub body : List ℕ → List ℕ
 body b = drop 3 b
 
+-- number k of the head, in its order: bond, rate, gap, strength, moment, boards, failure time
+abbrev pub head : List ℕ → ℕ → ℕ
+head b k = getD (fields headWidths (body b) 0) k 0
+
 -- c, the number of boards
 abbrev pub boardCount : List ℕ → ℕ
-boardCount b = getD (fields headWidths (body b) 0) 5 0
+boardCount b = head b 5
 
 -- n, the number of lamellae, which follows the boards
 abbrev pub lamellaCount : List ℕ → ℕ
@@ -55,7 +59,7 @@ lamellaPart b = drop (18 + 4 * boardCount b) b
 abbrev pub boardFrom : List ℕ → Board
 boardFrom vs = record { kind = getD vs 0 0; thickness = getD vs 1 0; joint = getD vs 2 0 }
 
--- the boards after the head, which takes 14 bytes of the body; more than two boards are refused by line 6
+-- the boards after the head, which takes 14 bytes of the body t, each in four; more than two boards are refused by line 6
 abbrev pub claddingAt : ℕ → List ℕ → Cladding
 claddingAt zero t = Unclad
 claddingAt (suc zero) t = One (boardFrom (fields boardWidths t 14))
@@ -85,12 +89,12 @@ arraysOf ls =
 unfoldable pub panelOf : List ℕ → Panel
 panelOf b =
     record {
-      bond = getD (fields headWidths (body b) 0) 0 0;
-      rate = getD (fields headWidths (body b) 0) 1 0;
-      gap = getD (fields headWidths (body b) 0) 2 0;
-      strength = getD (fields headWidths (body b) 0) 3 0;
-      moment = getD (fields headWidths (body b) 0) 4 0;
-      «failure_time» = getD (fields headWidths (body b) 0) 6 0;
+      bond = head b 0;
+      rate = head b 1;
+      gap = head b 2;
+      strength = head b 3;
+      moment = head b 4;
+      «failure_time» = head b 6;
       cladding = claddingAt (boardCount b) (body b);
       count = lamellaCount b;
       directions = arraysOf (recordLamellae b) .directions;

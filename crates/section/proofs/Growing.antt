@@ -1,10 +1,8 @@
 -- The sums lamella by lamella: with one more lamella at the deeper end they are those of the longer run. Assumes nothing.
-use Prim.Native.Nat.{ℕ, zero, suc, _+_, _-_, _*_, _≤_, _<_}
+use Prim.Native.Nat.{ℕ, suc, _+_, _-_, _*_, _≤_, _<_}
 use mathlib.Core.Path.{_≡_, refl, sym, ap, _∙_}
 use mathlib.Core.Bool.{Bool, true, false}
 use mathlib.Core.List.{List, [], _∷_, _++_, append-nil}
-use mathlib.Core.Logic.{⊎-elim}
-use native.Mathlib.Nat.{eq-or-lt-of-le}
 use native.Mathlib.Numerals.{add-one}
 use native.Mathlib.Omega.{arith}
 use lib.ListN.{getD}
@@ -12,16 +10,12 @@ use lib.Dec.{eqb}
 use borrow.Author.Tests.{ne-eqb}
 use Rattle.numbers.specs.Choice.{pick}
 use Rattle.panel.specs.Lamellae.{Lamella, lamella, lamellaeOf, thickness}
+use Rattle.panel.proofs.Used.{thickness-more, thickness-prefix}
 use Rattle.section.specs.declared.Section.{Section}
 use Rattle.section.specs.Sections.{Part, rest, counts, keepIf, countedFrom, counted, total, lowest, highest, sectionOf}
 use Rattle.section.specs.Steps.{withPart, withLamella, pickSection}
 use Rattle.section.specs.Tests.{SectionBounds}
 use Rattle.section.proofs.Chains.{Chain, none, more, counted-chain, counted-bounds}
-
-thickness-append : (ls ms : List Lamella) → thickness (ls ++ ms) ≡ thickness ls + thickness ms
-unfolding thickness
-thickness-append [] ms = omega arith
-thickness-append (l ∷ ls) ms = omega (arith, thickness-append ls ms)
 
 keepIf-append : (b : Bool) (x : Part) (xs ys : List Part) → keepIf b x (xs ++ ys) ≡ keepIf b x xs ++ ys
 keepIf-append true x xs ys = refl
@@ -94,22 +88,6 @@ lamella-counts depth top l s e = rw e
 pub lamella-misses : (depth top : ℕ) (l : Lamella) (s : Section) → counts depth top l ≡ false → withLamella depth top l s ≡ s
 unfolding withLamella
 lamella-misses depth top l s e = rw e
-
--- where a run of lamellae in two arrays ends, with one more
-thickness-more : (gs ts : List ℕ) (i : ℕ)
-    → thickness (lamellaeOf gs ts (suc i)) ≡ thickness (lamellaeOf gs ts i) + getD ts i 0
-unfolding lamellaeOf thickness
-thickness-more gs ts i = omega (arith, thickness-append (lamellaeOf gs ts i) (lamella (getD gs i 0) (getD ts i 0) ∷ []))
-
--- a longer run of lamellae is no thinner
-thickness-prefix : (gs ts : List ℕ) (i n : ℕ) → i ≤ n → thickness (lamellaeOf gs ts i) ≤ thickness (lamellaeOf gs ts n)
-thickness-prefix gs ts zero zero h = omega arith
-thickness-prefix gs ts (suc i) zero h = absurd (omega arith)
-thickness-prefix gs ts i (suc n) h =
-    ⊎-elim
-    (λ same. rw same (omega arith))
-    (λ (below : i < suc n). omega (arith, thickness-more gs ts n, thickness-prefix gs ts i n (omega arith)))
-    (eq-or-lt-of-le h)
 
 -- the loop over two arrays: the sums of the first i lamellae, and where they end
 pub record Summed (gs ts : List ℕ) (depth i : ℕ) (s : Section) (top : ℕ) : Type 0 where

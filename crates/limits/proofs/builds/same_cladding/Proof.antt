@@ -13,4 +13,5 @@ returns-3 c = simp (c .same-two .ensures, c .before .before .a2 .given .1)
 pub same-cladding-spec : {M : Type 1} → statement M
 same-cladding-spec =
     tie.close
-    (tie.spec (λ c. search needs) (λ c κs. search needs) (λ c. search needs) (λ c κs. search needs) (λ c. search needs) (λ c κs. search needs) (λ c. search needs) returns-2 returns-3)
+    (tie.spec (λ c. search needs) (λ c κs. search needs) (λ c. search needs) (λ c κs. search needs)
+    (λ c. search needs) (λ c κs. search needs) (λ c. search needs) returns-2 returns-3)

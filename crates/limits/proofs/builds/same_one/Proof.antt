@@ -10,4 +10,5 @@ returns-2 c = simp (c .same-board .ensures, c .before .before .b .given .1)
 pub same-one-spec : {M : Type 1} → statement M
 same-one-spec =
     tie.close
-    (tie.spec (λ c. search needs) (λ c. search needs) (λ c κs. search needs) (λ c. search needs) (λ c. search needs) returns-2 (λ c. search needs))
+    (tie.spec (λ c. search needs) (λ c. search needs) (λ c κs. search needs) (λ c. search needs)
+    (λ c. search needs) returns-2 (λ c. search needs))

@@ -10,4 +10,5 @@ returns-3 c = simp (c .before .same-board .ensures, c .same-board2 .ensures, c .
 pub same-two-spec : {M : Type 1} → statement M
 same-two-spec =
     tie.close
-    (tie.spec (λ c. search needs) (λ c. search needs) (λ c. search needs) (λ c κs. search needs) (λ c κs. search needs) (λ c. search needs) (λ c. search needs) returns-3)
+    (tie.spec (λ c. search needs) (λ c. search needs) (λ c. search needs) (λ c κs. search needs)
+    (λ c κs. search needs) (λ c. search needs) (λ c. search needs) returns-3)

@@ -22,26 +22,38 @@ returns c =
 returns-2 : tie.Need-returns-2
 unfolding buildAnswer
 returns-2 c =
-    let a = c .before .before .before .before .args .a in
-    let b = c .before .before .before .before .args .b in
+    let c3 = c .before .before .before in
+    let c3 = c3 in
+    let c4 = c3 .before in
+    let a = c4 .args .a in
+    let b = c4 .args .b in
     ap Refused (c .before .panel-refusal2 .ensures)
     ∙ refused (panelRefusal b) Refused (sameIf (sameBuild a b)) (λ z. c .if2 .taken (c .before .panel-refusal2 .ensures ∙ z))
-    ∙ answered (panelRefusal a) Refused (answer (panelRefusal b) Refused (sameIf (sameBuild a b))) (sym (c .before .before .before .panel-refusal .ensures) ∙ c .before .before .if1 .left)
+    ∙ answered (panelRefusal a) Refused (answer (panelRefusal b) Refused (sameIf (sameBuild a b))) (sym (c3 .panel-refusal .ensures) ∙ c .before .before .if1 .left)
 
 is-same-build-requires : tie.Need-is-same-build-requires
 is-same-build-requires c κs =
-    (accepted-loaded (c .before .before .before .before .args .a) (sym (c .before .before .before .panel-refusal .ensures) ∙ c .before .before .if1 .left) .count, accepted-loaded (c .before .before .before .before .args .b) (sym (c .before .panel-refusal2 .ensures) ∙ c .if2 .left) .count)
+    let c3 = c .before .before .before in
+    let c3 = c3 in
+    let c4 = c3 .before in
+    (accepted-loaded (c4 .args .a) (sym (c3 .panel-refusal .ensures) ∙ c .before .before .if1 .left) .count, accepted-loaded (c4 .args .b) (sym (c .before .panel-refusal2 .ensures) ∙ c .if2 .left) .count)
 
 returns-3 : tie.Need-returns-3
 unfolding buildAnswer
 returns-3 c =
-    let a = c .before .before .before .before .before .before .args .a in
-    let b = c .before .before .before .before .before .before .args .b in
+    let c3 = c .before .before .before in
+    let c3 = c3 in
+    let c4 = c3 .before in
+    let c5 = c4 .before in
+    let c6 = c5 .before in
+    let a = c6 .args .a in
+    let b = c6 .args .b in
     c .same-if .ensures ∙ ap sameIf (c .before .is-same-build .ensures)
-    ∙ answered (panelRefusal b) Refused (sameIf (sameBuild a b)) (sym (c .before .before .before .panel-refusal2 .ensures) ∙ c .before .before .if2 .left)
-    ∙ answered (panelRefusal a) Refused (answer (panelRefusal b) Refused (sameIf (sameBuild a b))) (sym (c .before .before .before .before .before .panel-refusal .ensures) ∙ c .before .before .before .before .if1 .left)
+    ∙ answered (panelRefusal b) Refused (sameIf (sameBuild a b)) (sym (c3 .panel-refusal2 .ensures) ∙ c .before .before .if2 .left)
+    ∙ answered (panelRefusal a) Refused (answer (panelRefusal b) Refused (sameIf (sameBuild a b))) (sym (c5 .panel-refusal .ensures) ∙ c4 .if1 .left)
 
 pub same-build-spec : {M : Type 1} → statement M
 same-build-spec =
     tie.close
-    (tie.spec (λ c κs. search needs) returns (λ c κs. search needs) returns-2 is-same-build-requires (λ c κs. search needs) returns-3)
+    (tie.spec (λ c κs. search needs) returns (λ c κs. search needs) returns-2 is-same-build-requires
+    (λ c κs. search needs) returns-3)

@@ -23,16 +23,21 @@ section-at-requires c κs = accepted-fits (c .before .before .args .p) (sym (c .
 
 section-passes-requires : tie.Need-section-passes-requires
 section-passes-requires c κs =
-    let f = accepted-fits (c .before .before .before .args .p) (sym (c .before .before .panel-refusal .ensures) ∙ c .before .if1 .left) in
-    (f .moment, (f .strength, rw (c .section-at .ensures) (counted-bounds (c .before .before .before .args .depth) (lamellae (c .before .before .before .args .p)) (f .thickness))))
+    let c3 = c .before .before .before in
+    let c3 = c3 in
+    let f = accepted-fits (c3 .args .p) (sym (c .before .before .panel-refusal .ensures) ∙ c .before .if1 .left) in
+    (f .moment, (f .strength, rw (c .section-at .ensures) (counted-bounds (c3 .args .depth) (lamellae (c3 .args .p)) (f .thickness))))
 
 returns-2 : tie.Need-returns-2
 unfolding sectionAnswer
 returns-2 c =
-    let p = c .before .before .before .before .args .p in
-    let d = c .before .before .before .before .args .depth in
+    let c3 = c .before .before .before in
+    let c3 = c3 in
+    let c4 = c3 .before in
+    let p = c4 .args .p in
+    let d = c4 .args .depth in
     ap₂ At (c .before .section-at .ensures) (c .section-passes .ensures ∙ ap (carries (p .moment) (p .strength)) (c .before .section-at .ensures))
-    ∙ answered (panelRefusal p) Refused (At (sectionAt p d) (depthPasses p d)) (sym (c .before .before .before .panel-refusal .ensures) ∙ c .before .before .if1 .left)
+    ∙ answered (panelRefusal p) Refused (At (sectionAt p d) (depthPasses p d)) (sym (c3 .panel-refusal .ensures) ∙ c .before .before .if1 .left)
 
 pub section-spec : {M : Type 1} → statement M
 section-spec =

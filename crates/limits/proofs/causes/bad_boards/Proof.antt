@@ -13,4 +13,5 @@ returns-3 c = simp (c .before .bad-board2 .ensures, c .bad-board3 .ensures, c .b
 pub bad-boards-spec : {M : Type 1} → statement M
 bad-boards-spec =
     tie.close
-    (tie.spec (λ c. search needs) (λ c. search needs) (λ c κs. search needs) (λ c. search needs) (λ c κs. search needs) (λ c κs. search needs) (λ c. search needs) returns-2 returns-3)
+    (tie.spec (λ c. search needs) (λ c. search needs) (λ c κs. search needs) (λ c. search needs)
+    (λ c κs. search needs) (λ c κs. search needs) (λ c. search needs) returns-2 returns-3)

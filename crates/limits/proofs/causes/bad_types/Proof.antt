@@ -13,4 +13,5 @@ returns-3 c = simp (c .bad-pair .ensures, c .before .before .c2 .given .1)
 pub bad-types-spec : {M : Type 1} → statement M
 bad-types-spec =
     tie.close
-    (tie.spec (λ c. search needs) (λ c. search needs) (λ c κs. search needs) (λ c. search needs) (λ c κs. search needs) (λ c. search needs) returns-2 returns-3)
+    (tie.spec (λ c. search needs) (λ c. search needs) (λ c κs. search needs) (λ c. search needs)
+    (λ c κs. search needs) (λ c. search needs) returns-2 returns-3)

@@ -6,7 +6,7 @@ use Rattle.panel.specs.Lamellae.{lamellaeOf, thickness}
 use borrow.Author.Needs.{needs}
 use lib.ListN.{getD}
 use mathlib.Core.List.{List}
-use mathlib.Core.Path.{refl, ap, _∙_, _≡_}
+use mathlib.Core.Path.{refl, sym, ap, _∙_, _≡_}
 use mir.Syntax.{w16}
 use mir.Val.{Fits}
 use native.Mathlib.Numerals.{add-one}
@@ -31,10 +31,9 @@ add-sum : tie.Need-add-sum Inv-loop μ-loop
 add-sum c = let h : Fits w16 (getD (c .before .before .args .t1) (c .before .loop .i) 0) = search needs in omega arith
 
 loop-again : tie.Need-loop-again Inv-loop μ-loop
-unfolding lamellaeOf
 loop-again c =
     let h : Fits w16 (getD (c .before .before .args .t1) (c .before .loop .i) 0) = search needs in
-    (omega arith, omega arith, λ gs. rw (add-one, thickness-more) (ap (λ (k : ℕ). k + getD (c .before .before .args .t1) (c .before .loop .i) 0) (c .before .loop .inv .2 gs)))
+    (omega arith, omega arith, λ gs. rw add-one (ap (λ (k : ℕ). k + getD (c .before .before .args .t1) (c .before .loop .i) 0) (c .before .loop .inv .2 gs) ∙ sym (thickness-more gs (c .before .before .args .t1) (c .before .loop .i))))
 
 returns : tie.Need-returns Inv-loop μ-loop
 returns c =
@@ -43,4 +42,5 @@ returns c =
 pub total-thickness-spec : {M : Type 1} → statement M
 total-thickness-spec =
     tie.close
-    (tie.spec Inv-loop μ-loop loop-holds (λ c. omega arith) (λ c. omega arith) cast-sum add-sum (λ c. omega arith) (λ c. omega arith) loop-again returns)
+    (tie.spec Inv-loop μ-loop loop-holds (λ c. omega arith) (λ c. omega arith) cast-sum add-sum
+    (λ c. omega arith) (λ c. omega arith) loop-again returns)

@@ -11,13 +11,18 @@ use Rattle.limits.proofs.groups.lamellae_or_none.Tie as tie
 
 returns : tie.Need-returns
 returns c =
-    let p = c .before .before .before .before .before .before .before .args .p in
+    let c3 = c .before .before .before in
+    let c3 = c3 in
+    let c4 = c3 .before in
+    let c7 = c4 .before .before .before in
+    let p = c7 .args .p in
     c .line-or2 .ensures
     ∙ ap₂ (λ (t : Bool) (n : ℕ). pick t 11 n)
-    (ap₂ (λ (a : Bool) (k : ℕ). a || ltb 4000 k) (c .before .before .before .before .some-bad-lamella .ensures) (c .before .before .before .total-thickness .ensures (p .directions)))
+    (ap₂ (λ (a : Bool) (k : ℕ). a || ltb 4000 k) (c4 .some-bad-lamella .ensures) (c3 .total-thickness .ensures (p .directions)))
     (c .before .line-or .ensures ∙ ap (λ (t : Bool). pick (not t) 12 0) (c .before .before .some-along .ensures (p .thicknesses)))
 
 pub lamellae-or-none-spec : {M : Type 1} → statement M
 lamellae-or-none-spec =
     tie.close
-    (tie.spec (λ c κs. search needs) (λ c κs. search needs) (λ c κs. search needs) (λ c κs. search needs) (λ c κs. search needs) returns)
+    (tie.spec (λ c κs. search needs) (λ c κs. search needs) (λ c κs. search needs) (λ c κs. search needs)
+    (λ c κs. search needs) returns)

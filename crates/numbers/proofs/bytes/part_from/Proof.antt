@@ -29,8 +29,9 @@ part-result-end c = search needs
 -- src/bytes.rt:60:1
 returns : tie.Need-returns
 returns c =
-    let l = now (c .before .before .before .args .s) in
-    rw part-to-end (ap (λ (a : ℕ). drop a l) (c .before .lesser .ensures .0) ∙ drop-min l (c .before .before .before .args .at))
+    let c3 = c .before .before .before in
+    let l = now (c3 .args .s) in
+    rw part-to-end (ap (λ (a : ℕ). drop a l) (c .before .lesser .ensures .0) ∙ drop-min l (c3 .args .at))
 
 pub part-from-spec : {M : Type 1} → statement M
 part-from-spec =

@@ -55,12 +55,17 @@ returns c = search needs
 -- src/boards.rt:50:1
 returns-2 : tie.Need-returns-2
 returns-2 c =
-    simp (c .less .ensures, c .before .outer-gain .ensures .0, c .before .before .before .c .given .1, c .before .before .before .before .before .gap-loss .ensures)
+    let c3 = c .before .before .before in
+    let c5 = c3 .before .before in
+    simp (c .less .ensures, c .before .outer-gain .ensures .0, c3 .c .given .1, c5 .gap-loss .ensures)
 
 -- src/boards.rt:50:1
 returns-3 : tie.Need-returns-3
 returns-3 c =
-    simp (c .less2 .ensures, c .before .inner-gain .ensures .0, c .before .before .outer-gain2 .ensures .0, c .before .before .before .before .c2 .given .1, c .before .before .before .before .before .before .gap-loss .ensures)
+    let c4 = c .before .before .before .before in
+    let c4 = c4 in
+    let c6 = c4 .before .before in
+    simp (c .less2 .ensures, c .before .inner-gain .ensures .0, c .before .before .outer-gain2 .ensures .0, c4 .c2 .given .1, c6 .gap-loss .ensures)
 
 pub charring-start-spec : {M : Type 1} → statement M
 charring-start-spec =

@@ -20,15 +20,20 @@ record-refusal-requires c κs = ap (λ (p : Panel). p .count) (c .panel-of .ensu
 returns : tie.Need-returns
 unfolding decode recordRefusal
 returns c =
-    let b = now (c .before .before .before .before .before .args .s) in
-    let e : c .before .before .record-refusal .result ≡ recordRefusal b = c .before .before .record-refusal .ensures ∙ ap (λ (p : Panel). refusal (recordLines b p)) (c .before .before .before .panel-of .ensures) in
+    let c3 = c .before .before .before in
+    let c3 = c3 in
+    let c5 = c3 .before .before in
+    let b = now (c5 .args .s) in
+    let e : c .before .before .record-refusal .result ≡ recordRefusal b = c .before .before .record-refusal .ensures ∙ ap (λ (p : Panel). refusal (recordLines b p)) (c3 .panel-of .ensures) in
     ap₂ reading e (c .blank-panel .ensures)
     ∙ refused (recordRefusal b) (λ (n : ℕ). reading n blank) (reading 0 (panelOf b)) (λ z. c .before .if1 .taken (e ∙ z))
 
 returns-2 : tie.Need-returns-2
 unfolding decode recordRefusal
 returns-2 c =
-    let b = now (c .before .before .before .before .args .s) in
+    let c4 = c .before .before .before .before in
+    let c4 = c4 in
+    let b = now (c4 .args .s) in
     let e : c .before .record-refusal .result ≡ recordRefusal b = c .before .record-refusal .ensures ∙ ap (λ (p : Panel). refusal (recordLines b p)) (c .before .before .panel-of .ensures) in
     ap (reading 0) (c .before .before .panel-of .ensures)
     ∙ answered (recordRefusal b) (λ (n : ℕ). reading n blank) (reading 0 (panelOf b)) (sym e ∙ c .if1 .left)

@@ -10,4 +10,5 @@ returns c = rw (c .bad-count .ensures, c .before .before .board-count .ensures .
 pub bad-lamella-count-spec : {M : Type 1} → statement M
 bad-lamella-count-spec =
     tie.close
-    (tie.spec (λ c κs. search needs) (λ c κs. search needs) (λ c κs. search needs) (λ c. search needs) (λ c. search needs) (λ c. search needs) (λ c. search needs) returns)
+    (tie.spec (λ c κs. search needs) (λ c κs. search needs) (λ c κs. search needs) (λ c. search needs)
+    (λ c. search needs) (λ c. search needs) (λ c. search needs) returns)

@@ -1,33 +1,36 @@
 -- `record::lines::record_refusal` meets its contract: lines 11 to 13 are worked out where lines 1 to 10 do not fit.
 -- Assumes nothing.
-use Rattle.limits.proofs.FirstLine.{first-none, none-first, first-some}
+use Rattle.limits.proofs.FirstLine.{said, unsaid, clear}
 use Rattle.limits.specs.Lines.{refusal}
 use Rattle.limits.specs.Refusals.{lamellaLines}
 use Rattle.record.proofs.RecordLines.{record-loaded}
 use Rattle.record.specs.Refusals.{upperLines}
 use borrow.Author.Needs.{needs}
 use denote.Ref.{now}
-use mathlib.Core.Path.{sym, _∙_}
 use Rattle.record.proofs.lines.record_refusal.Statement.{statement}
 use Rattle.record.proofs.lines.record_refusal.Tie as tie
 
 returns : tie.Need-returns
 returns c =
-    let b = now (c .before .before .before .args .s) in
-    let p = c .before .before .before .args .p in
-    c .before .upper-refusal .ensures ∙ sym (first-some (upperLines b p) (refusal (lamellaLines p)) (λ z. c .if1 .taken (c .before .upper-refusal .ensures ∙ z)))
+    let c3 = c .before .before .before in
+    let b = now (c3 .args .s) in
+    let p = c3 .args .p in
+    said (upperLines b p) (refusal (lamellaLines p)) (c .before .upper-refusal .result) (c .before .upper-refusal .ensures) (c .if1 .taken)
 
 lamella-refusal-requires : tie.Need-lamella-refusal-requires
 lamella-refusal-requires c κs =
-    let b = now (c .before .before .before .args .s) in
-    let p = c .before .before .before .args .p in
-    record-loaded b p (c .before .before .before .pre) (first-none (upperLines b p) tt (sym (c .before .upper-refusal .ensures) ∙ c .if1 .left))
+    let c3 = c .before .before .before in
+    let b = now (c3 .args .s) in
+    let p = c3 .args .p in
+    record-loaded b p (c3 .pre) (clear (upperLines b p) tt (c .before .upper-refusal .result) (c .before .upper-refusal .ensures) (c .if1 .left))
 
 returns-2 : tie.Need-returns-2
 returns-2 c =
-    let b = now (c .before .before .before .before .args .s) in
-    let p = c .before .before .before .before .args .p in
-    c .lamella-refusal .ensures ∙ sym (none-first (upperLines b p) (first-none (upperLines b p) tt (sym (c .before .before .upper-refusal .ensures) ∙ c .before .if1 .left)) (refusal (lamellaLines p)))
+    let c4 = c .before .before .before .before in
+    let b = now (c4 .args .s) in
+    let p = c4 .args .p in
+    unsaid (upperLines b p) tt (refusal (lamellaLines p)) (c .before .before .upper-refusal .result) (c .lamella-refusal .result)
+    (c .before .before .upper-refusal .ensures) (c .before .if1 .left) (c .lamella-refusal .ensures)
 
 pub record-refusal-spec : {M : Type 1} → statement M
 record-refusal-spec =

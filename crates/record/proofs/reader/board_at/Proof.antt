@@ -11,4 +11,5 @@ returns c = simp (add-assoc, c .before .before .get8 .ensures, c .before .get16 
 pub board-at-spec : {M : Type 1} → statement M
 board-at-spec =
     tie.close
-    (tie.spec (λ c κs. search needs) (λ c. search needs) (λ c κs. search needs) (λ c. search needs) (λ c κs. search needs) returns)
+    (tie.spec (λ c κs. search needs) (λ c. search needs) (λ c κs. search needs) (λ c. search needs)
+    (λ c κs. search needs) returns)

@@ -10,9 +10,12 @@ use Rattle.record.proofs.reader.lamella_count.Tie as tie
 
 returns : tie.Need-returns
 returns c =
-    (c .wide .ensures .0 ∙ c .before .get8 .ensures ∙ ap (λ (k : ℕ). getD (now (c .before .before .before .before .args .s)) (17 + 4 * k) 0) (c .before .before .board-count .ensures .0), search needs)
+    let c4 = c .before .before .before .before in
+    let c4 = c4 in
+    (c .wide .ensures .0 ∙ c .before .get8 .ensures ∙ ap (λ (k : ℕ). getD (now (c4 .args .s)) (17 + 4 * k) 0) (c .before .before .board-count .ensures .0), search needs)
 
 pub lamella-count-spec : {M : Type 1} → statement M
 lamella-count-spec =
     tie.close
-    (tie.spec (λ c κs. search needs) (λ c. search needs) (λ c. search needs) (λ c κs. search needs) (λ c κs. search needs) (λ c. search needs) returns)
+    (tie.spec (λ c κs. search needs) (λ c. search needs) (λ c. search needs) (λ c κs. search needs)
+    (λ c κs. search needs) (λ c. search needs) returns)

@@ -25,13 +25,16 @@ loop-holds c = (omega arith, (refl, refl))
 
 loop-again : tie.Need-loop-again Inv-loop μ-loop
 loop-again c =
-    let u = now (c .before .before .before .before .before .args .u) in
-    let i = c .before .before .before .loop .i in
+    let c3 = c .before .before .before in
+    let c3 = c3 in
+    let c5 = c3 .before .before in
+    let u = now (c5 .args .u) in
+    let i = c3 .loop .i in
     let less : i < 9 = omega arith in (
       omega arith,
       (
-        ap₂ (λ (l : List ℕ) (x : ℕ). set l i x) (c .before .before .before .loop .inv .1 .0) (c .before .get8 .ensures) ∙ filled-more (λ (l : Lamella). l .direction) u i less,
-        ap₂ (λ (l : List ℕ) (x : ℕ). set l i x) (c .before .before .before .loop .inv .1 .1) (c .get16 .ensures) ∙ filled-more (λ (l : Lamella). l .thickness) u i less,
+        ap₂ (λ (l : List ℕ) (x : ℕ). set l i x) (c3 .loop .inv .1 .0) (c .before .get8 .ensures) ∙ filled-more (λ (l : Lamella). l .direction) u i less,
+        ap₂ (λ (l : List ℕ) (x : ℕ). set l i x) (c3 .loop .inv .1 .1) (c .get16 .ensures) ∙ filled-more (λ (l : Lamella). l .thickness) u i less,
       ),
     )
 
@@ -43,4 +46,6 @@ returns c =
 pub lamellae-in-spec : {M : Type 1} → statement M
 lamellae-in-spec =
     tie.close
-    (tie.spec Inv-loop μ-loop loop-holds (λ c. search needs) (λ c κs. search needs) (λ c. search needs) (λ c. search needs) (λ c. search needs) (λ c κs. search needs) (λ c. search needs) (λ c. search needs) (λ c. search needs) (λ c. search needs) loop-again returns)
+    (tie.spec Inv-loop μ-loop loop-holds (λ c. search needs) (λ c κs. search needs) (λ c. search needs)
+    (λ c. search needs) (λ c. search needs) (λ c κs. search needs) (λ c. search needs) (λ c. search needs)
+    (λ c. search needs) (λ c. search needs) loop-again returns)

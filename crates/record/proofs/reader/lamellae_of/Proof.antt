@@ -12,13 +12,17 @@ use Rattle.record.proofs.reader.lamellae_of.Tie as tie
 
 returns : tie.Need-returns
 returns c =
-    let b = now (c .before .before .before .before .before .before .args .s) in
+    let c3 = c .before .before .before in
+    let c4 = c3 .before in
+    let c6 = c4 .before .before in
+    let b = now (c6 .args .s) in
     c .lamellae-in .ensures
     ∙ ap₂ (λ (u : List ℕ) (n : ℕ). arraysOf (lamellaeIn u n))
-    (c .before .part-from .ensures ∙ ap (λ (c : ℕ). drop (18 + 4 * c) b) (c .before .before .before .before .board-count .ensures .0))
-    (c .before .before .lesser .ensures .0 ∙ ap (λ (n : ℕ). min n 9) (c .before .before .before .lamella-count .ensures .0))
+    (c .before .part-from .ensures ∙ ap (λ (c : ℕ). drop (18 + 4 * c) b) (c4 .board-count .ensures .0))
+    (c .before .before .lesser .ensures .0 ∙ ap (λ (n : ℕ). min n 9) (c3 .lamella-count .ensures .0))
 
 pub lamellae-of-spec : {M : Type 1} → statement M
 lamellae-of-spec =
     tie.close
-    (tie.spec (λ c κs. search needs) (λ c. search needs) (λ c. search needs) (λ c κs. search needs) (λ c κs. search needs) (λ c κs. search needs) (λ c κs. search needs) returns)
+    (tie.spec (λ c κs. search needs) (λ c. search needs) (λ c. search needs) (λ c κs. search needs)
+    (λ c κs. search needs) (λ c κs. search needs) (λ c κs. search needs) returns)

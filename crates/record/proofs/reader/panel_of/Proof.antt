@@ -8,9 +8,20 @@ use Rattle.record.proofs.reader.panel_of.Tie as tie
 returns : tie.Need-returns
 unfolding panelOf
 returns c =
-    simp (c .before .before .before .before .before .before .before .before .get8 .ensures, c .before .before .before .before .before .before .before .get82 .ensures, c .before .before .before .before .before .before .get83 .ensures, c .before .before .before .before .before .get16 .ensures, c .before .before .before .before .get32 .ensures, c .before .before .before .get322 .ensures, c .before .cladding-at .ensures, c .lamella-count .ensures .0, c .before .before .before .before .before .before .before .before .before .before .before .lamellae-of .ensures, c .before .before .board-count .ensures .0, c .before .before .before .before .before .before .before .before .before .before .before .before .part-from .ensures)
+    let c3 = c .before .before .before in
+    let c3 = c3 in
+    let c4 = c3 .before in
+    let c5 = c4 .before in
+    let c6 = c5 .before in
+    let c7 = c6 .before in
+    let c8 = c7 .before in
+    let c11 = c8 .before .before .before in
+    let c12 = c11 .before in
+    simp (c8 .get8 .ensures, c7 .get82 .ensures, c6 .get83 .ensures, c5 .get16 .ensures, c4 .get32 .ensures, c3 .get322 .ensures, c .before .cladding-at .ensures, c .lamella-count .ensures .0, c11 .lamellae-of .ensures, c .before .before .board-count .ensures .0, c12 .part-from .ensures)
 
 pub panel-of-spec : {M : Type 1} → statement M
 panel-of-spec =
     tie.close
-    (tie.spec (λ c κs. search needs) (λ c κs. search needs) (λ c κs. search needs) (λ c κs. search needs) (λ c κs. search needs) (λ c κs. search needs) (λ c κs. search needs) (λ c κs. search needs) (λ c κs. search needs) (λ c κs. search needs) (λ c κs. search needs) returns)
+    (tie.spec (λ c κs. search needs) (λ c κs. search needs) (λ c κs. search needs) (λ c κs. search needs)
+    (λ c κs. search needs) (λ c κs. search needs) (λ c κs. search needs) (λ c κs. search needs)
+    (λ c κs. search needs) (λ c κs. search needs) (λ c κs. search needs) returns)

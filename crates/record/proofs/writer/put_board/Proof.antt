@@ -1,27 +1,30 @@
 -- `record::writer::put_board` meets its contract: each store begins where the one before ends.
 -- Assumes nothing.
-use Prim.Native.Nat.{_+_}
+use Prim.Native.Nat.{ℕ, _+_}
 use Rattle.numbers.proofs.Lists.{then-put}
 use Rattle.numbers.specs.Bytes.{bytes}
 use borrow.Author.Needs.{needs}
 use denote.Ref.{now}
-use mathlib.Core.List.{_++_}
+use mathlib.Core.List.{_++_, List}
 use mathlib.Core.Path.{refl}
 use Rattle.record.proofs.writer.put_board.Statement.{statement}
 use Rattle.record.proofs.writer.put_board.Tie as tie
 
 returns : tie.Need-returns
 returns c =
-    let l = now (c .before .before .before .before .before .before .before .before .before .before .before .before .before .args .out) in
-    let at = c .before .before .before .before .before .before .before .before .before .before .before .before .before .args .at in
-    let b = c .before .before .before .before .before .before .before .before .before .before .before .before .before .args .b in
-    then-put l (c .before .before .before .before .before .before .put16 .last .0) (c .before .before .put82 .last .0) at (bytes 1 (b .kind) ++ bytes 2 (b .thickness)) (at + 3) (bytes 1 (b .joint))
-    (then-put l (c .before .before .before .before .before .before .before .before .before .before .put8 .last .0) (c .before .before .before .before .before .before .put16 .last .0) at (bytes 1 (b .kind)) (at + 1) (bytes 2 (b .thickness))
-    (c .before .before .before .before .before .before .before .before .before .before .put8 .ensures)
-    refl (c .before .before .before .before .before .before .put16 .ensures))
-    refl (c .before .before .put82 .ensures)
+    let c6 = c .before .before .before .before .before .before in
+    let c10 = c6 .before .before .before .before in
+    let c13 = c10 .before .before .before in
+    let l = now (c13 .args .out) in
+    let at = c13 .args .at in
+    let b = c13 .args .b in
+    let v₁ : List ℕ = bytes 1 (b .kind) in
+    let e₂ = then-put l (c10 .put8 .last .0) (c6 .put16 .last .0) at v₁ (at + 1) (bytes 2 (b .thickness)) (c10 .put8 .ensures) refl (c6 .put16 .ensures) in
+    let v₂ : List ℕ = v₁ ++ bytes 2 (b .thickness) in
+    then-put l (c6 .put16 .last .0) (c .before .before .put82 .last .0) at v₂ (at + 3) (bytes 1 (b .joint)) e₂ refl (c .before .before .put82 .ensures)
 
 pub put-board-spec : {M : Type 1} → statement M
 put-board-spec =
     tie.close
-    (tie.spec (λ c κs. search needs) (λ c. search needs) (λ c κs. search needs) (λ c. search needs) (λ c κs. search needs) (λ c. search needs) returns)
+    (tie.spec (λ c κs. search needs) (λ c. search needs) (λ c κs. search needs) (λ c. search needs)
+    (λ c κs. search needs) (λ c. search needs) returns)

@@ -28,4 +28,5 @@ returns-3 c = rw (c .before .before .before .before .before .c2 .given .1) (c .b
 pub put-cladding-spec : {M : Type 1} → statement M
 put-cladding-spec =
     tie.close
-    (tie.spec (λ c. search needs) (λ c. search needs) put-board-requires (λ c. search needs) put-two-requires returns (λ c. search needs) returns-2 (λ c. search needs) returns-3)
+    (tie.spec (λ c. search needs) (λ c. search needs) put-board-requires (λ c. search needs) put-two-requires
+    returns (λ c. search needs) returns-2 (λ c. search needs) returns-3)

@@ -1,21 +1,23 @@
 -- `record::writer::put_lamella` meets its contract: the second store begins where the first ends.
 -- Assumes nothing.
-use Prim.Native.Nat.{_+_}
+use Prim.Native.Nat.{ℕ, _+_}
 use Rattle.numbers.proofs.Lists.{then-put}
 use Rattle.numbers.specs.Bytes.{bytes}
 use borrow.Author.Needs.{needs}
 use denote.Ref.{now}
+use mathlib.Core.List.{List}
 use mathlib.Core.Path.{refl}
 use Rattle.record.proofs.writer.put_lamella.Statement.{statement}
 use Rattle.record.proofs.writer.put_lamella.Tie as tie
 
 returns : tie.Need-returns
 returns c =
-    let l = now (c .before .before .before .before .before .before .before .before .before .args .out) in
-    let at = c .before .before .before .before .before .before .before .before .before .args .at in
-    then-put l (c .before .before .before .before .before .before .put8 .last .0) (c .before .before .put16 .last .0) at (bytes 1 (c .before .before .before .before .before .before .before .before .before .args .direction)) (at + 1) (bytes 2 (c .before .before .before .before .before .before .before .before .before .args .thickness))
-    (c .before .before .before .before .before .before .put8 .ensures)
-    refl (c .before .before .put16 .ensures)
+    let c6 = c .before .before .before .before .before .before in
+    let c9 = c6 .before .before .before in
+    let l = now (c9 .args .out) in
+    let at = c9 .args .at in
+    let v₁ : List ℕ = bytes 1 (c9 .args .direction) in
+    then-put l (c6 .put8 .last .0) (c .before .before .put16 .last .0) at v₁ (at + 1) (bytes 2 (c9 .args .thickness)) (c6 .put8 .ensures) refl (c .before .before .put16 .ensures)
 
 pub put-lamella-spec : {M : Type 1} → statement M
 put-lamella-spec =

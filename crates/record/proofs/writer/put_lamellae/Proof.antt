@@ -31,19 +31,22 @@ loop-holds c = (omega arith, (refl, refl))
 loop-again : tie.Need-loop-again Inv-loop μ-loop
 unfolding lamellaeOf
 loop-again c =
-    let gs = c .before .before .before .before .before .before .before .args .t3 in
-    let ts = c .before .before .before .before .before .before .before .args .t4 in
-    let i = c .before .before .before .before .before .loop .i in
+    let c5 = c .before .before .before .before .before in
+    let c5 = c5 in
+    let c7 = c5 .before .before in
+    let gs = c7 .args .t3 in
+    let ts = c7 .args .t4 in
+    let i = c5 .loop .i in
     let xs = lamellaeOf gs ts i in
     let x = lamella (getD gs i 0) (getD ts i 0) in
-    let e : c .before .before .before .before .before .before .before .args .at + 3 * i ≡ c .before .before .before .before .before .before .before .args .at + length (lamellaBytes xs) = omega (arith, length-lamellaBytes xs, length-lamellaeOf gs ts i) in (
+    let e : c7 .args .at + 3 * i ≡ c7 .args .at + length (lamellaBytes xs) = omega (arith, length-lamellaBytes xs, length-lamellaeOf gs ts i) in (
       omega arith,
       (
-        c .before .before .put-lamella .kept .0 ∙ c .before .before .before .before .before .loop .inv .1 .0,
-        then-put (now (c .before .before .before .before .before .before .before .args .out)) (c .before .before .before .before .before .loop .out) (c .before .before .put-lamella .last .0) (c .before .before .before .before .before .before .before .args .at) (lamellaBytes xs) (c .before .before .before .before .before .before .before .args .at + 3 * i)
+        c .before .before .put-lamella .kept .0 ∙ c5 .loop .inv .1 .0,
+        then-put (now (c7 .args .out)) (c5 .loop .out) (c .before .before .put-lamella .last .0) (c7 .args .at) (lamellaBytes xs) (c7 .args .at + 3 * i)
             (join lamellaWidths (getD gs i 0 ∷ getD ts i 0 ∷ []))
-            (c .before .before .before .before .before .loop .inv .1 .1) e (c .before .before .put-lamella .ensures)
-            ∙ ap (sets (now (c .before .before .before .before .before .before .before .args .out)) (c .before .before .before .before .before .before .before .args .at)) (sym (lamellaBytes-more xs x) ∙ ap (λ (k : ℕ). lamellaBytes (lamellaeOf gs ts k)) (sym (add-one i))),
+            (c5 .loop .inv .1 .1) e (c .before .before .put-lamella .ensures)
+            ∙ ap (sets (now (c7 .args .out)) (c7 .args .at)) (sym (lamellaBytes-more xs x) ∙ ap (λ (k : ℕ). lamellaBytes (lamellaeOf gs ts k)) (sym (add-one i))),
       ),
     )
 
@@ -55,4 +58,6 @@ returns c =
 pub put-lamellae-spec : {M : Type 1} → statement M
 put-lamellae-spec =
     tie.close
-    (tie.spec Inv-loop μ-loop loop-holds (λ c. search needs) (λ c. search needs) (λ c. search needs) (λ c. search needs) (λ c. search needs) (λ c κs. search needs) (λ c. search needs) (λ c. search needs) loop-again (λ c. search needs) returns)
+    (tie.spec Inv-loop μ-loop loop-holds (λ c. search needs) (λ c. search needs) (λ c. search needs)
+    (λ c. search needs) (λ c. search needs) (λ c κs. search needs) (λ c. search needs) (λ c. search needs)
+    loop-again (λ c. search needs) returns)

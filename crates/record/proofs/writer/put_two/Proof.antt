@@ -15,12 +15,13 @@ use Rattle.record.proofs.writer.put_two.Tie as tie
 returns : tie.Need-returns
 unfolding boardBytes
 returns c =
-    let l = now (c .before .before .before .before .before .before .before .before .before .args .out) in
-    let at = c .before .before .before .before .before .before .before .before .before .args .at in
+    let c6 = c .before .before .before .before .before .before in
+    let c9 = c6 .before .before .before in
+    let l = now (c9 .args .out) in
+    let at = c9 .args .at in
     let bytesOf : Board → List ℕ = λ b. join boardWidths (b .kind ∷ b .thickness ∷ b .joint ∷ []) in
-    then-put l (c .before .before .before .before .before .before .put-board .last .0) (c .before .before .put-board2 .last .0) at (bytesOf (c .before .before .before .before .before .before .before .before .before .args .outer)) (at + 4) (bytesOf (c .before .before .before .before .before .before .before .before .before .args .inner))
-    (c .before .before .before .before .before .before .put-board .ensures)
-    refl (c .before .before .put-board2 .ensures)
+    let v₁ : List ℕ = bytesOf (c9 .args .outer) in
+    then-put l (c6 .put-board .last .0) (c .before .before .put-board2 .last .0) at v₁ (at + 4) (bytesOf (c9 .args .inner)) (c6 .put-board .ensures) refl (c .before .before .put-board2 .ensures)
 
 pub put-two-spec : {M : Type 1} → statement M
 put-two-spec =

@@ -28,10 +28,11 @@ add-top c =
     omega (arith, summed-fits _ _ _ _ _ _ _ (l .loop .inv .1) (search needs) (l .before .pre .1) .1)
 
 loop-again : tie.Need-loop-again Inv-loop μ-loop
-loop-again c = (
-  omega arith,
-  summed-more _ _ _ _ _ _ _ _ (c .before .before .before .loop .inv .1) (c .before .with-lamella .ensures) (omega arith),
-)
+loop-again c =
+    let c3 = c .before .before .before in (
+      omega arith,
+      summed-more _ _ _ _ _ _ _ _ (c3 .loop .inv .1) (c .before .with-lamella .ensures) (omega arith),
+    )
 
 returns : tie.Need-returns Inv-loop μ-loop
 returns c =

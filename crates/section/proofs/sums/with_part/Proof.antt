@@ -8,11 +8,14 @@ use Rattle.section.proofs.sums.with_part.Tie as tie
 returns : tie.Need-returns
 unfolding withPart
 returns c =
-    let a = c .before .before .before .before .before .before .before .args in
+    let c4 = c .before .before .before .before in
+    let c6 = c4 .before .before in
+    let c7 = c6 .before in
+    let a = c7 .args in
     λ i.
     record {
-      n = a .s .n + c .before .before .before .before .before .before .beyond .ensures .0 i;
-      p = a .s .p + c .before .before .before .before .squares .ensures .0 i;
+      n = a .s .n + c6 .beyond .ensures .0 i;
+      p = a .s .p + c4 .squares .ensures .0 i;
       q = a .s .q + c .before .before .cubes .ensures .0 i;
       lo = c .outer-end .ensures i;
       hi = a .b;
