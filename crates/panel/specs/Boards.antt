@@ -1,11 +1,18 @@
 -- Document 01, "The panel record" and "Charring": the boards, and when charring starts behind them.
 use Prim.Native.Nat.{ℕ, _+_, _-_, _*_}
+use mathlib.Core.List.{List, [], _∷_}
 use mathlib.Core.Bool.{Bool, true, false, not, _||_}
 use lib.Dec.{eqb}
 use Rattle.numbers.specs.Choice.{pick}
 use Rattle.panel.specs.declared.Board.{Board}
 use Rattle.panel.specs.declared.Cladding.{Cladding}
 use Rattle.panel.specs.declared.Cladding.the-variants.{Unclad, One, Two}
+
+-- "outer first"
+abbrev pub boardsOf : Cladding → List Board
+boardsOf Unclad = []
+boardsOf (One b) = b ∷ []
+boardsOf (Two outer inner) = outer ∷ inner ∷ []
 
 -- "type A, F or H as its ASCII letter": 65, 70 and 72
 abbrev pub known : Board → Bool

@@ -21,7 +21,8 @@ use Rattle.limits.specs.Refusals.{panelRefusal}
 use Rattle.limits.proofs.FirstLine.{none-first}
 use Rattle.limits.proofs.Accepted.{in-range, none-fits}
 use Rattle.limits.proofs.Unused.{refusal-unused}
-use Rattle.record.specs.Layouts.{boardsOf, lamellaCount, recordLength, panelOf, encode}
+use Rattle.panel.specs.Boards.{boardsOf}
+use Rattle.record.specs.Layouts.{lamellaCount, recordLength, panelOf, encode}
 use Rattle.record.specs.Refusals.{badLength, badBoardCount, badLamellaCount, recordLines, recordRefusal}
 use Rattle.record.proofs.Lengths.{length-encode}
 use Rattle.record.proofs.There.{count-there, panel-there}

@@ -10,6 +10,7 @@ use Rattle.numbers.specs.Bytes.{number, fields, join}
 use Rattle.numbers.proofs.Digits.{AreBytes, join-fields}
 use Rattle.numbers.proofs.Places.{places, span, places-append, places-drop, places-all}
 use Rattle.panel.specs.Lamellae
+use Rattle.panel.specs.Boards.{boardsOf}
 use Rattle.record.specs.Layouts.{
   frontWidths,
   headWidths,
@@ -23,7 +24,6 @@ use Rattle.record.specs.Layouts.{
   lamellaFrom,
   lamellaeIn,
   claddingAt,
-  boardsOf,
   boardBytes,
   lamellaBytes,
   recordLength,

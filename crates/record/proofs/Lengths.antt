@@ -12,7 +12,8 @@ use Rattle.panel.specs.declared.Board.{Board}
 use Rattle.panel.specs.declared.Panel.{Panel}
 use Rattle.panel.specs.Lamellae.{Lamella, lamellae}
 use Rattle.panel.proofs.Used.{length-lamellaeOf}
-use Rattle.record.specs.Layouts.{frontWidths, headWidths, countWidths, lamellaWidths, boardsOf, boardBytes, lamellaBytes, recordLength, encode}
+use Rattle.panel.specs.Boards.{boardsOf}
+use Rattle.record.specs.Layouts.{frontWidths, headWidths, countWidths, lamellaWidths, boardBytes, lamellaBytes, recordLength, encode}
 
 pub length-lamellaBytes : (ls : List Lamella) → length (lamellaBytes ls) ≡ 3 * length ls
 unfolding lamellaBytes

@@ -18,7 +18,8 @@ use Rattle.limits.specs.Causes.{badCount}
 use Rattle.limits.specs.Refusals.{panelLines, panelRefusal}
 use Rattle.limits.proofs.FirstLine.{First, accepted-iff, refusal-first, none-first}
 use Rattle.limits.proofs.Accepted.{or-none, in-range}
-use Rattle.record.specs.Layouts.{frontWidths, boardCount, lamellaCount, lamellaPart, claddingAt, boardsOf, lamellaeIn, recordLamellae, panelOf, recordLength}
+use Rattle.panel.specs.Boards.{boardsOf}
+use Rattle.record.specs.Layouts.{frontWidths, boardCount, lamellaCount, lamellaPart, claddingAt, lamellaeIn, recordLamellae, panelOf, recordLength}
 use Rattle.record.specs.Refusals.{badLength, badBoardCount, badLamellaCount, recordLines, recordRefusal}
 use Rattle.record.proofs.Arrays.{length-lamellaeIn}
 

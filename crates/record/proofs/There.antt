@@ -18,6 +18,7 @@ use Rattle.panel.specs.declared.Cladding.the-variants.{Unclad, One, Two}
 use Rattle.panel.specs.declared.Panel.{Panel}
 use Rattle.panel.specs.Lamellae.{Lamella, lamella, lamellae, cleared}
 use Rattle.panel.proofs.Used.{length-lamellaeOf}
+use Rattle.panel.specs.Boards.{boardsOf}
 use Rattle.record.specs.Layouts.{
   frontWidths,
   headWidths,
@@ -31,7 +32,6 @@ use Rattle.record.specs.Layouts.{
   recordLamellae,
   arraysOf,
   claddingAt,
-  boardsOf,
   boardBytes,
   lamellaBytes,
   recordLength,

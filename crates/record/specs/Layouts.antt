@@ -9,6 +9,7 @@ use Rattle.panel.specs.declared.Board.{Board}
 use Rattle.panel.specs.declared.Cladding.{Cladding}
 use Rattle.panel.specs.declared.Cladding.the-variants.{Unclad, One, Two}
 use Rattle.panel.specs.declared.Panel.{Panel}
+use Rattle.panel.specs.Boards.{boardsOf}
 use Rattle.panel.specs.Lamellae.{Lamella, lamellae, nine}
 use Rattle.record.specs.declared.Lamellae.{Lamellae}
 
@@ -102,12 +103,6 @@ panelOf b =
     }
 
 -- Writing
-
--- the boards, outer first
-abbrev pub boardsOf : Cladding → List Board
-boardsOf Unclad = []
-boardsOf (One b) = b ∷ []
-boardsOf (Two outer inner) = outer ∷ inner ∷ []
 
 unfoldable pub boardBytes : List Board → List ℕ
 boardBytes [] = []

@@ -12,7 +12,8 @@ ghost use lib.ListN.{length};
 ghost use lib.Seq.{sets};
 ghost use Rattle.numbers.specs.Bytes.{join};
 ghost use Rattle.panel.specs.Lamellae.{lamellae, lamellaeOf};
-ghost use Rattle.record.specs.Layouts.{frontWidths, headWidths, boardWidths, countWidths, lamellaWidths, boardsOf, boardBytes, lamellaBytes, recordLength, encode};
+ghost use Rattle.panel.specs.Boards.{boardsOf};
+ghost use Rattle.record.specs.Layouts.{frontWidths, headWidths, boardWidths, countWidths, lamellaWidths, boardBytes, lamellaBytes, recordLength, encode};
 
 fn boards_of(c: Cladding) -> usize
     ensures { λ r. ⌜ (r ≡ length (boardsOf c)) × (r ≤ 2) ⌝ }
