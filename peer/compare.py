@@ -1,9 +1,10 @@
-"""compare.py REPOSITORY [--records N] [--seed S] [--bin] [PROGRAM..]
+"""compare.py REPOSITORY [--records N] [--seed S] [--bin] [WORD..]
 
-Runs the test programs on random records and compares what they print with peer.py. Nothing has to be proved: each program is run by
-`rt try`, on the interpreter and compiled three ways, in a scratch copy of the repository. --bin: runs target/bin/PROGRAM instead.
-The input goes in pieces: a program reads 64 KiB at most, and the interpreter stops after ten million steps. test_panels reads no
-input: its `main` is written anew, with random panels, unused places full (not with --bin).
+Runs the test programs on random records and compares what they print with peer.py. WORD is a call of test_calls, as `read`, or
+`test_panels`; none: all of them. Nothing has to be proved: a program is run by `rt try`, on the interpreter and compiled three ways, in
+a scratch copy of the repository. --bin: runs target/bin/test_calls instead. The input goes in pieces: the program reads 64 KiB at
+most, and the interpreter stops after ten million steps. test_panels reads no input: its `main` is written anew, with random panels,
+unused places full (not with --bin).
 Ends with status 1 at a disagreement, and prints its line.
 """
 import argparse
@@ -52,26 +53,26 @@ def partner(rng, record):
     return record[:at] + bytes([record[at] ^ 1 << rng.randrange(3)]) + record[at + 1:]
 
 
-def cases(name, seed, count):
-    rng = random.Random(f"{name} {seed}")
+def cases(call, seed, count):
+    rng = random.Random(f"{call} {seed}")
     for number in range(count):
         record = random_records.random_record(rng)
         text = f"case {number}"
-        if name == "test_records":
+        if call == "read":
             yield record, text
-        elif name == "test_writes":
+        elif call == "write":
             yield random_space(rng, record), record, text
-        elif name == "test_sections":
+        elif call == "section":
             yield random_depth(rng, record), record, text
         else:
             yield record, partner(rng, record), text
 
 
-def pieces(name, all_cases):
+def pieces(call, all_cases):
     """The cases in groups whose input fits one run."""
     group, size = [], 0
     for case in all_cases:
-        length = len(programs.PROGRAMS[name][0](*case)) + 1
+        length = len(f"{call} {programs.CALLS[call][0](*case)}\n")
         if size + length > ROOM or len(group) == GROUP:
             yield group
             group, size = [], 0
@@ -153,17 +154,17 @@ def run_try(scratch, name, given, expected):
     return (expected.encode()[:int(at.group(1))].count(b"\n") if at else 0), said
 
 
-def compare(run, place, name, seed, count):
+def compare(run, place, call, seed, count):
     done = 0
-    for group in pieces(name, cases(name, seed, count)):
-        given, expected = programs.lines(name, group)
-        wrong = run(place, name, given, expected)
+    for group in pieces(call, cases(call, seed, count)):
+        given, expected = programs.lines(call, group)
+        wrong = run(place, "test_calls", given, expected)
         if wrong:
             at, said = wrong
-            print(f"{name} disagrees at\n  {(given.split(chr(10)) + [''])[at]}\n  peer:    {expected.split(chr(10))[at]}\n  program: {said[:3000]}")
+            print(f"test_calls disagrees at\n  {(given.split(chr(10)) + [''])[at]}\n  peer:    {expected.split(chr(10))[at]}\n  program: {said[:3000]}")
             return False
         done += len(group)
-        print(f"{name}: {done} agree", flush=True)
+        print(f"{call}: {done} agree", flush=True)
     return True
 
 
@@ -173,9 +174,9 @@ def main():
     words.add_argument("--records", type=int, default=5000)
     words.add_argument("--seed", type=int, default=1)
     words.add_argument("--bin", action="store_true")
-    words.add_argument("programs", nargs="*")
+    words.add_argument("words", nargs="*")
     given = words.parse_intermixed_args()
-    names = given.programs or list(programs.PROGRAMS) + ["test_panels"] * (not given.bin)
+    names = given.words or list(programs.CALLS) + ["test_panels"] * (not given.bin)
     if given.bin:
         sys.exit(not all([compare(run_bin, given.repository, name, given.seed, given.records) for name in names]))
     with tempfile.TemporaryDirectory() as scratch:

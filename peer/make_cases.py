@@ -372,7 +372,7 @@ def built_lines():
     yield refusals_line(G, "unused places full")
     yield space_line(G, "record of the panel with unused places full")
     yield space_line(G, "record of the panel with unused places 0")
-    yield f"{programs.build_answer(G, G)} unused places full and 0\n"
+    yield f"{programs.compared(G, G)} unused places full and 0\n"
     yield refusals_line(G._replace(lamellae=G.lamellae + ((255, 65_535),)), "a full place used")
     greatest = Panel(255, 255, 255, 65_535, 2 ** 32 - 1, 2 ** 32 - 1, (Board(255, 65_535, 255),) * 2, ((255, 65_535),) * 10)
     yield refusals_line(greatest, "all fields at their greatest")
@@ -386,7 +386,8 @@ def built_lines():
 
 # ---------------------------------------------------------------- Files
 
-CASES = {"test_records": record_cases, "test_writes": write_cases, "test_sections": section_cases, "test_builds": build_cases}
+# the word of the call: its cases
+CASES = {"read": record_cases, "write": write_cases, "section": section_cases, "build": build_cases}
 
 
 def store(repository, name, file, text):
@@ -394,14 +395,24 @@ def store(repository, name, file, text):
         out.write(text)
 
 
-def main(repository):
-    for name, cases in CASES.items():
+def called_lines():
+    """The text of stdin and of stdout of test_calls."""
+    given, expected = "", ""
+    for call, cases in CASES.items():
         cases = list(cases())
-        given, expected = programs.lines(name, cases)
-        assert len(given) <= 65_536 and len(set(given.split("\n"))) == len(cases) + 1, f"{name}: too long, or a case twice"
-        store(repository, name, "stdin", given)
-        store(repository, name, "stdout", expected)
-        print(f"{name}: {len(cases)} cases, {len(given)} bytes")
+        asked, answered = programs.lines(call, cases)
+        assert len(set(asked.split("\n"))) == len(cases) + 1, f"{call}: a case twice"
+        print(f"{call}: {len(cases)} cases")
+        given, expected = given + asked, expected + answered
+    assert len(given) <= 65_536, "the program reads no more"
+    return given, expected
+
+
+def main(repository):
+    given, expected = called_lines()
+    store(repository, "test_calls", "stdin", given)
+    store(repository, "test_calls", "stdout", expected)
+    print(f"test_calls: {len(given)} bytes")
     built = list(built_lines())
     store(repository, "test_panels", "stdout", "".join(built))
     print(f"test_panels: {len(built)} lines")

@@ -1,4 +1,4 @@
-"""What each test program reads and must print, by peer.py: for a case the line of `stdin` and the line of `stdout`."""
+"""What test_calls reads and must print, by peer.py: for a case the line of `stdin` and the line of `stdout`, after the word of its call."""
 import peer
 
 SPACE = 64    # bytes of the writers' array
@@ -18,32 +18,32 @@ def refused(number):
     return f"refused {number}"
 
 
-def records_line(record, text):
+def read_line(record, text):
     return f"{word(record)} {text}"
 
 
-def records_answer(record, text):
+def read_answer(record, text):
     refusal, panel = peer.decode(record)
     if refusal:
         return f"{refusal} {text}"
     return f"0 {'same' if peer.encode(panel) == record else 'differs'} {text}"
 
 
-def writes_line(space, record, text):
+def write_line(space, record, text):
     return f"{space} {word(record)} {text}"
 
 
-def writes_answer(space, record, text):
+def write_answer(space, record, text):
     filled = bytes([FILLED] * SPACE)
     (answer, number), after = peer.write(panel_of(record), filled[:space])
     return f"{answer} {number} {(after + filled[space:]).hex()} {text}"
 
 
-def sections_line(depth, record, text):
+def section_line(depth, record, text):
     return f"{depth} {word(record)} {text}"
 
 
-def sections_answer(depth, record, text):
+def section_answer(depth, record, text):
     panel = panel_of(record)
     refusal = peer.panel_refusal(panel)
     if refusal:
@@ -52,7 +52,7 @@ def sections_answer(depth, record, text):
     return f"{' '.join(map(str, numbers))} {'passes' if passes else 'fails'} {text}"
 
 
-def build_answer(a, b):
+def compared(a, b):
     """Of two panels the first is checked before the second."""
     refusal = peer.panel_refusal(a) or peer.panel_refusal(b)
     if refusal:
@@ -60,24 +60,24 @@ def build_answer(a, b):
     return "same" if peer.same_build(a, b) else "different"
 
 
-def builds_line(a, b, text):
+def build_line(a, b, text):
     return f"{word(a)} {word(b)} {text}"
 
 
-def builds_answer(a, b, text):
-    return f"{build_answer(panel_of(a), panel_of(b))} {text}"
+def build_answer(a, b, text):
+    return f"{compared(panel_of(a), panel_of(b))} {text}"
 
 
-# name: (line of stdin, line of stdout)
-PROGRAMS = {
-    "test_records": (records_line, records_answer),
-    "test_writes": (writes_line, writes_answer),
-    "test_sections": (sections_line, sections_answer),
-    "test_builds": (builds_line, builds_answer),
+# the word of the call: (what follows it in stdin, what follows it in stdout)
+CALLS = {
+    "read": (read_line, read_answer),
+    "write": (write_line, write_answer),
+    "section": (section_line, section_answer),
+    "build": (build_line, build_answer),
 }
 
 
-def lines(name, cases):
-    """The text of stdin and of stdout of a program for its cases."""
-    line, answer = PROGRAMS[name]
-    return "".join(line(*case) + "\n" for case in cases), "".join(answer(*case) + "\n" for case in cases)
+def lines(call, cases):
+    """The text of stdin and of stdout for the cases of one call."""
+    line, answer = CALLS[call]
+    return "".join(f"{call} {line(*case)}\n" for case in cases), "".join(f"{call} {answer(*case)}\n" for case in cases)

@@ -5,6 +5,7 @@ ghost use lib.ListN.{length};
 ghost use Rattle.io.specs.Counts.{Counts};
 
 // The place of the first mark from `at` on, or the text's length where there is none.
+// No open call: `at` must be a place of the text, or its end.
 pub fn end_of(text: &[u8], at: usize, mark: u8) -> usize
     requires { ⌜ at ≤ length (now text) ⌝ }
     ensures { λ r. ⌜ (at ≤ r) × (r ≤ length (now (text .entry))) ⌝ }
@@ -20,6 +21,7 @@ pub fn end_of(text: &[u8], at: usize, mark: u8) -> usize
 }
 
 // The line that begins at `at`, without its line feed.
+// No open call: `at` must be a place of the text, or its end.
 pub fn line_at(text: &[u8], at: usize) -> &[u8]
     requires { ⌜ at ≤ length (now text) ⌝ }
 {
@@ -28,6 +30,7 @@ pub fn line_at(text: &[u8], at: usize) -> &[u8]
 }
 
 // Where the line after the one at `at` begins, or the text's length where that is the last.
+// No open call: `at` must be a place of the text.
 pub fn next_line(text: &[u8], at: usize) -> usize
     requires { ⌜ at < length (now text) ⌝ }
     ensures { λ r. ⌜ (at < r) × (r ≤ length (now (text .entry))) ⌝ }
@@ -40,6 +43,11 @@ pub fn next_line(text: &[u8], at: usize) -> usize
 pub fn first_word(line: &[u8]) -> &[u8] {
     let end = end_of(line, 0, b' ');
     &line[0..end]
+}
+
+// Whether the line's first word is this one.
+pub fn is_word(line: &[u8], word: &[u8]) -> bool {
+    check::same(first_word(line), word)
 }
 
 // What follows the first word and its blank; nothing where the line is one word.

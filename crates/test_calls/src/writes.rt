@@ -1,11 +1,9 @@
-// Reads each record of the input and writes its panel into lent space: a line is the number of lent bytes, at most 64, the record in
-// hexadecimal and a text. The space is the front of 64 bytes filled with 238. Prints the writer's answer, all 64 bytes, and the text.
+// `write SPACE HEX TEXT`: writes the record's panel into SPACE lent bytes, at most 64. They are the front of 64 bytes filled with 238.
+// Prints the writer's answer, all 64 bytes, and the text. A refused record stands for a blank panel.
 use panel::Panel;
 use record::Writing;
 use test_lines::input::after_word;
 use test_lines::input::first_word;
-use test_lines::input::line_at;
-use test_lines::input::next_line;
 use test_lines::input::number;
 use test_lines::output;
 use test_lines::records::panel_of;
@@ -48,23 +46,10 @@ fn print_writing(p: Panel, space: usize)
     output::hex(&bytes);
 }
 
-fn answer(line: &[u8]) {
+pub fn answer(line: &[u8]) {
     let space = at_most_64(number(first_word(line)));
     let rest = after_word(line);
+    output::text(b"write ");
     print_writing(panel_of(first_word(rest)), space);
     output::end_line(after_word(rest));
-}
-
-fn answer_all(text: &[u8]) {
-    let mut at = 0;
-    while at < text.len() {
-        answer(line_at(text, at));
-        at = next_line(text, at);
-    }
-}
-
-fn main() {
-    let mut input = io::large_buffer();
-    let n = io::read_full(0, &mut input);
-    answer_all(&input[..n]);
 }

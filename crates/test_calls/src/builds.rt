@@ -1,10 +1,8 @@
-// Compares the panels of two records: a line of the input is both records in hexadecimal and a text. Prints whether the two are the
-// same build, or the refusal, and the text. A refused record stands for a blank panel.
+// `build HEX HEX TEXT`: compares the panels of two records. Prints whether the two are the same build, or the refusal, and the text.
+// A refused record stands for a blank panel.
 use limits::BuildAnswer;
 use test_lines::input::after_word;
 use test_lines::input::first_word;
-use test_lines::input::line_at;
-use test_lines::input::next_line;
 use test_lines::output;
 use test_lines::records::panel_of;
 
@@ -19,24 +17,11 @@ fn print_answer(answer: BuildAnswer) {
     }
 }
 
-fn answer(line: &[u8]) {
+pub fn answer(line: &[u8]) {
     let rest = after_word(line);
     let a = panel_of(first_word(line));
     let b = panel_of(first_word(rest));
+    output::text(b"build ");
     print_answer(limits::calls::same_build(a, b));
     output::end_line(after_word(rest));
-}
-
-fn answer_all(text: &[u8]) {
-    let mut at = 0;
-    while at < text.len() {
-        answer(line_at(text, at));
-        at = next_line(text, at);
-    }
-}
-
-fn main() {
-    let mut input = io::large_buffer();
-    let n = io::read_full(0, &mut input);
-    answer_all(&input[..n]);
 }

@@ -1,12 +1,10 @@
-// Reads each record of the input: a line is the record in hexadecimal (`-` for no bytes) and a text. Prints the refusal's number
-// and the text. For an accepted record, number 0, it also says whether writing the panel gives back the very bytes.
+// `read HEX TEXT`: reads the record in hexadecimal (`-` for no bytes). Prints the refusal's number and the text. For an accepted record,
+// number 0, it also says whether writing the panel gives back the very bytes.
 use panel::Panel;
 use record::Writing;
 use test_lines::input::after_word;
 use test_lines::input::first_word;
 use test_lines::input::hex_bytes;
-use test_lines::input::line_at;
-use test_lines::input::next_line;
 use test_lines::output;
 
 // Whether the first k bytes of the space are these.
@@ -41,23 +39,10 @@ fn print_reading(bytes: &[u8]) {
     }
 }
 
-fn answer(line: &[u8]) {
+pub fn answer(line: &[u8]) {
     let mut bytes = [0u8; 128];
     let n = hex_bytes(first_word(line), &mut bytes);
+    output::text(b"read ");
     print_reading(&bytes[..n]);
     output::end_line(after_word(line));
-}
-
-fn answer_all(text: &[u8]) {
-    let mut at = 0;
-    while at < text.len() {
-        answer(line_at(text, at));
-        at = next_line(text, at);
-    }
-}
-
-fn main() {
-    let mut input = io::large_buffer();
-    let n = io::read_full(0, &mut input);
-    answer_all(&input[..n]);
 }

@@ -1,9 +1,9 @@
--- `test_writes::answer_all` is safe and ends: each turn goes on to the next line of the text. Assumes nothing.
+-- `test_calls::answer_all` is safe and ends: each turn goes on to the next line of the text. Assumes nothing.
 use Prim.Native.Nat.{_≤_, _-_}
 use borrow.Author.Needs.{needs}
 use lib.ListN.{length}
-use Rattle.test_writes.proofs.answer_all.Statement.{statement}
-use Rattle.test_writes.proofs.answer_all.Tie as tie
+use Rattle.test_calls.proofs.answer_all.Statement.{statement}
+use Rattle.test_calls.proofs.answer_all.Tie as tie
 
 abbrev Inv-loop : tie.InvT-loop
 Inv-loop text at₀ at = at ≤ length text
