@@ -93,6 +93,39 @@ accepted-fits p e =
 pub accepted-passes : (p : Panel) → panelRefusal p ≡ 0 → depthPasses p 0 ≡ true
 accepted-passes p e = not-false (depthPasses p 0) (none-fits p e .1 .1 .1 .1 .1 .1 .1 .1 .1 .0)
 
+-- The boards and lamellae of an accepted panel
+
+some-none :
+    (test : Lamella → Bool) (gs ts : List ℕ) (n : ℕ) → some test (lamellaeOf gs ts n) ≡ false
+    → (i : ℕ) → i < n → test (lamella (getD gs i 0) (getD ts i 0)) ≡ false
+unfolding lamellaeOf
+some-none test gs ts zero e i h = absurd (let z : ⊥ = omega arith in z)
+some-none test gs ts (suc n) e i h = go (decLt i n) (λ (f : some test (lamellaeOf gs ts n) ≡ false) (k : i < n). some-none test gs ts n f i k)
+  where
+    last : Lamella
+    last = lamella (getD gs n 0) (getD ts n 0)
+
+    both : (some test (lamellaeOf gs ts n) ≡ false) × (test last ≡ false)
+    both = or-none (some test (lamellaeOf gs ts n)) (test last) (sym (some-more test (lamellaeOf gs ts n) last) ∙ e)
+
+    go :
+        Dec (i < n) → (some test (lamellaeOf gs ts n) ≡ false → i < n → test (lamella (getD gs i 0) (getD ts i 0)) ≡ false)
+        → test (lamella (getD gs i 0) (getD ts i 0)) ≡ false
+    go (yes k) before = before (both .0) k
+    go (no k) before =
+        let same : i ≡ n = omega arith in
+        rw same (both .1)
+
+-- each lamella has 10.0 to 60.0 mm
+pub lamella-within :
+    (p : Panel) → panelRefusal p ≡ 0 → (i : ℕ) → i < p .count
+    → (100 ≤ getD (p .thicknesses) i 0) × (getD (p .thicknesses) i 0 ≤ 600)
+lamella-within p e i h =
+    let bad = or-none (some badLamella (lamellae p)) (ltb 4000 (thickness (lamellae p))) (none-fits p e .1 .1 .1 .1 .1 .1 .1 .0) in
+    let x = some-none badLamella (p .directions) (p .thicknesses) (p .count) (bad .0) i h in
+    in-range 100 600 (getD (p .thicknesses) i 0)
+    (or-none (ltb 1 (getD (p .directions) i 0)) (outside 100 600 (getD (p .thicknesses) i 0)) x .1)
+
 -- The start of charring
 
 -- the difference in t_ch

@@ -1,4 +1,5 @@
 pub mod Digits
 pub mod FirstValues
+pub mod LargestKept
 pub mod Lists
 pub mod Places

@@ -1,3 +1,4 @@
 pub mod Choice
 pub mod Firsts
+pub mod Largest
 pub mod Bytes

@@ -1,7 +1,8 @@
 -- Document 01, "Panels worked through": the panels that its starred lines speak of.
 use Prim.Native.Nat.{ℕ}
 use mathlib.Core.List.{List, [], _∷_}
-use Rattle.panel.specs.declared.Cladding.the-variants.{Unclad}
+use Rattle.panel.specs.declared.Board.{Board}
+use Rattle.panel.specs.declared.Cladding.the-variants.{Unclad, One}
 use Rattle.panel.specs.declared.Panel.{Panel}
 use Rattle.panel.specs.Lamellae.{nine}
 
@@ -28,3 +29,23 @@ g = three (1 ∷ 0 ∷ 1 ∷ []) (300 ∷ 400 ∷ 300 ∷ [])
 -- "10 along, 60 across, 60 along, f 240, M 15,000"
 abbrev pub recovers : Panel
 recovers = three (1 ∷ 0 ∷ 1 ∷ []) (100 ∷ 600 ∷ 600 ∷ []) 15000
+
+-- boards of 12.5 mm with coefficient 100, by type
+abbrev pub board125 : ℕ → Board
+board125 kind = record { kind = kind; thickness = 125; joint = 100 }
+
+-- "Type A 12.5, coefficient 100, three lamellae 20"; f 240, no moment
+abbrev pub behindA : Panel
+behindA =
+    record {
+      bond = 0;
+      rate = 65;
+      gap = 0;
+      strength = 240;
+      moment = 0;
+      «failure_time» = 0;
+      cladding = One (board125 65);
+      count = 3;
+      directions = nine (1 ∷ 0 ∷ 1 ∷ []);
+      thicknesses = nine (200 ∷ 200 ∷ 200 ∷ []);
+    }

@@ -1,0 +1,20 @@
+-- `basic_times::calls::board_protection` meets its contract: the test decides between the refusal and the table. Assumes nothing.
+use Rattle.basic_times.specs.declared.TimeAnswer.the-variants.{Time}
+use Rattle.limits.proofs.Accepted.{in-range}
+use mathlib.Core.Path.{ap}
+use Rattle.basic_times.proofs.calls.board_protection.Statement.{statement}
+use Rattle.basic_times.proofs.calls.board_protection.Tie as tie
+
+returns : tie.Need-returns
+returns c = rw (c .if1 .taken)
+
+at-requires : tie.Need-at-requires
+at-requires c κs = in-range 90 250 (c .before .args .h) (c .if1 .left)
+
+returns-2 : tie.Need-returns-2
+returns-2 c = rw (c .before .if1 .left) (ap Time (c .at .ensures))
+
+pub board-protection-spec : {M : Type 1} → statement M
+board-protection-spec =
+    tie.close
+    (tie.spec returns at-requires returns-2)

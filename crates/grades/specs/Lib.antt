@@ -1,0 +1,2 @@
+pub mod Grades
+pub mod Answers

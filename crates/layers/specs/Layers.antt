@@ -1,0 +1,72 @@
+-- Document 01, "Layer times": what each layer gives, and EI. Times are in hundredths of a minute.
+use Prim.Native.Nat.{ℕ, _+_, _-_, _*_, _/_, min}
+use mathlib.Core.List.{List, [], _∷_, _++_, map}
+use mathlib.Core.Bool.{Bool, true, false}
+use lib.Dec.{leb}
+use Rattle.numbers.specs.Largest.{largest}
+use Rattle.panel.specs.declared.Board.{Board}
+use Rattle.panel.specs.declared.Panel.{Panel}
+use Rattle.panel.specs.Boards.{boardsOf}
+use Rattle.panel.specs.Lamellae.{Lamella, lamellae}
+use Rattle.basic_times.specs.Rules.{gypsumProtection, gypsumInsulation, woodProtection, woodInsulation}
+
+-- "From the exposed side": a board or a lamella
+pub data Layer : Type 0 where
+  board : Board → Layer
+  wood : Lamella → Layer
+
+-- the layers of a panel, from the exposed side
+abbrev pub layersOf : Panel → List Layer
+layersOf p = map board (boardsOf (p .cladding)) ++ map wood (lamellae p)
+
+-- basic times
+unfoldable pub protection : Layer → ℕ
+protection (board b) = gypsumProtection (b .thickness)
+protection (wood l) = woodProtection (l .thickness)
+
+unfoldable pub insulation : Layer → ℕ
+insulation (board b) = gypsumInsulation (b .thickness)
+insulation (wood l) = woodInsulation (l .thickness)
+
+-- "its joint coefficient (lamella 100)", hundredths
+unfoldable pub jointOf : Layer → ℕ
+jointOf (board b) = b .joint
+jointOf (wood l) = 100
+
+-- "4·n²·S ≤ t³"
+abbrev pub lateKeeps : ℕ → ℕ → ℕ → Bool
+lateKeeps s t n = leb (4 * n * n * s) (t * t * t)
+
+-- "with S the sum of the layer times before and t a basic time: if 2S ≤ t the layer gives t − 0.6·S, else the largest n with
+-- 4·n²·S ≤ t³", rounded down; no such n is above t
+unfoldable pub positioned : ℕ → ℕ → ℕ
+positioned s t = elim (leb (2 * s) t) [ true ↦ (5 * t - 3 * s) / 5 | false ↦ largest (lateKeeps s t) t ]
+
+-- "then by its joint coefficient .., each step rounded down"
+abbrev pub layerTime : ℕ → ℕ → ℕ → ℕ
+layerTime s t joint = positioned s t * joint / 100
+
+-- the sum with one more layer, by protection or by insulation time
+unfoldable pub withProtection : ℕ → Layer → ℕ
+withProtection s x = s + layerTime s (protection x) (jointOf x)
+
+unfoldable pub withInsulation : ℕ → Layer → ℕ
+withInsulation s x = s + layerTime s (insulation x) (jointOf x)
+
+-- a run of layers, all by protection, after a sum s
+unfoldable pub protectedAfter : ℕ → List Layer → ℕ
+protectedAfter s [] = s
+protectedAfter s (x ∷ xs) = protectedAfter (withProtection s x) xs
+
+-- "All layers but the last use protection time, the last insulation time": the sum of a run of layers after a sum s
+unfoldable pub sumAfter : ℕ → List Layer → ℕ
+sumAfter s [] = s
+sumAfter s (x ∷ []) = withInsulation s x
+sumAfter s (x ∷ y ∷ xs) = sumAfter (withProtection s x) (y ∷ xs)
+
+unfoldable pub eiSum : Panel → ℕ
+eiSum p = sumAfter 0 (layersOf p)
+
+-- "EI is the sum, in minutes rounded down, at most 360."
+abbrev pub eiMinute : Panel → ℕ
+eiMinute p = min (eiSum p / 100) 360

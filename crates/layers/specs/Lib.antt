@@ -1,0 +1,3 @@
+pub mod Layers
+pub mod Fits
+pub mod Answers

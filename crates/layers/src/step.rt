@@ -1,0 +1,50 @@
+// The time that one layer gives, in hundredths of a minute.
+ghost use mathlib.Core.Path.{_≡_};
+ghost use Prim.Native.Nat.{_*_, _≤_, _<_};
+ghost use Rattle.numbers.specs.Largest.{largest};
+ghost use Rattle.layers.specs.Layers.{lateKeeps, positioned, layerTime};
+
+fn late_keeps(s: u64, t: u64, n: u64) -> bool
+    requires { ⌜ (s ≤ 200000) × ((t ≤ 15000) × (n ≤ 15001)) ⌝ }
+    ensures { λ r. ⌜ r ≡ lateKeeps s t n ⌝ }
+{
+    4 * n * n * s <= t * t * t
+}
+
+// The largest n with 4·n²·S ≤ t³, by halving: n keeps the test and beyond does not.
+fn late_time(s: u64, t: u64) -> u64
+    requires { ⌜ (s ≤ 200000) × ((t ≤ 15000) × (t < 2 * s)) ⌝ }
+    ensures { λ r. ⌜ (r ≡ largest (lateKeeps s t) t) × (r ≤ t) ⌝ }
+{
+    let mut n: u64 = 0;
+    let mut beyond: u64 = t + 1;
+    while n + 1 < beyond {
+        let middle = n + (beyond - n) / 2;
+        if late_keeps(s, t, middle) {
+            n = middle;
+        } else {
+            beyond = middle;
+        }
+    }
+    n
+}
+
+// Before its joint coefficient.
+fn position(s: u64, t: u64) -> u64
+    requires { ⌜ (s ≤ 200000) × (t ≤ 15000) ⌝ }
+    ensures { λ r. ⌜ (r ≡ positioned s t) × (r ≤ t) ⌝ }
+{
+    if 2 * s <= t {
+        (5 * t - 3 * s) / 5
+    } else {
+        late_time(s, t)
+    }
+}
+
+pub(crate) fn layer_time(s: u32, t: u16, joint: u8) -> u32
+    requires { ⌜ (s ≤ 200000) × ((t ≤ 15000) × (joint ≤ 100)) ⌝ }
+    ensures { λ r. ⌜ (r ≡ layerTime s t joint) × (r ≤ t) ⌝ }
+{
+    let n = position(s as u64, t as u64);
+    (n * (joint as u64) / 100) as u32
+}

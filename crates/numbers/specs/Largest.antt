@@ -1,0 +1,8 @@
+-- The largest number that keeps a test, as document 01 has it for basic times and layer times.
+use Prim.Native.Nat.{ℕ, zero, suc}
+use mathlib.Core.Bool.{Bool, true, false}
+
+-- the largest number up to a bound that keeps the test; 0 where none does
+unfoldable pub largest : (ℕ → Bool) → ℕ → ℕ
+largest test zero = 0
+largest test (suc n) = elim (test (suc n)) [ true ↦ suc n | false ↦ largest test n ]
