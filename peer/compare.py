@@ -53,7 +53,21 @@ def partner(rng, record):
     return record[:at] + bytes([record[at] ^ 1 << rng.randrange(3)]) + record[at + 1:]
 
 
+def random_layers(rng, record):
+    """The record, or half of the time one with a layer at the switch of the layer step."""
+    if rng.random() < 0.5:
+        return record
+    return peer.encode(random_records.at_switch(rng, random_records.random_panel(rng)))
+
+
+def random_minute(rng):
+    """Beside a grade, beside 0 or 360, or any."""
+    near = rng.choice((0,) + peer.GRADES) + rng.choice([-1, 0, 1])
+    return rng.choice([max(0, near), rng.randint(0, 360), rng.choice([361, 65_535])])
+
+
 def cases(call, seed, count):
+    """Random ones; of `time` and `grade` every thickness and minute from 0 on."""
     rng = random.Random(f"{call} {seed}")
     for number in range(count):
         record = random_records.random_record(rng)
@@ -64,8 +78,16 @@ def cases(call, seed, count):
             yield random_space(rng, record), record, text
         elif call == "section":
             yield random_depth(rng, record), record, text
-        else:
+        elif call == "build":
             yield record, partner(rng, record), text
+        elif call == "sum":
+            yield random_layers(rng, record), text
+        elif call == "time":
+            yield list(programs.TIMES)[number % 4], number // 4, text
+        elif call == "grade":
+            yield number, text
+        else:
+            yield random_minute(rng), random_minute(rng), text
 
 
 def pieces(call, all_cases):
@@ -103,9 +125,11 @@ def built_case(rng, number):
     p.moment = {panel.moment};
     print_panel(p, b"case {number}");
     print_record(p, b"case {number}");
+    print_sum(p, b"case {number}");
 }}
 """
-    return code, make_cases.refusals_line(panel, f"case {number}") + make_cases.space_line(panel, f"case {number}")
+    lines = [line(panel, f"case {number}") for line in (make_cases.refusals_line, make_cases.space_line, make_cases.sum_line)]
+    return code, "".join(lines)
 
 
 def compare_built(scratch, seed, count):
@@ -121,7 +145,7 @@ def compare_built(scratch, seed, count):
             file.write(support + "".join(code for code, _ in built) + f"fn main() {{\n{calls}}}\n")
         wrong = run_try(scratch, "test_panels", "", "".join(lines for _, lines in built))
         if wrong:
-            print(f"test_panels disagrees at\n{built[wrong[0] // 2][0]}{built[wrong[0] // 2][1]}{wrong[1][:3000]}")
+            print(f"test_panels disagrees at\n{built[wrong[0] // 3][0]}{built[wrong[0] // 3][1]}{wrong[1][:3000]}")
             return False
         print(f"test_panels: {numbers[-1] + 1} agree", flush=True)
     return True

@@ -318,6 +318,147 @@ def build_cases():
     yield pair(G, G._replace(moment=43_057), "the second refused, so blank")
 
 
+def time_cases():
+    """(kind, thickness, text): the ends of each table, one past them, document 01's figures and those of example A 1.4 of 000."""
+    for layer, kinds, low, high, between in (("board", ("bp", "bi"), 90, 250, (91, 95, 100, 125, 150, 151, 180, 249)),
+                                             ("lamella", ("lp", "li"), 100, 600, (101, 150, 200, 201, 300, 333, 400, 512, 599))):
+        for kind, what in zip(kinds, ("protection", "insulation")):
+            for thickness in (0, low - 1, low) + between + (high, high + 1, 65_535):
+                yield kind, thickness, f"{what} by a {layer} of {thickness // 10:,}.{thickness % 10}"
+
+
+def crossed(*thicknesses):
+    """G with these lamellae in mm, along and across by turns."""
+    return G._replace(moment=0, lamellae=tuple(((i + 1) % 2, 10 * thickness) for i, thickness in enumerate(thicknesses)))
+
+
+# Document 000, tables 16 and 17: panel, lamellae in mm, EI printed unclad and under one board F 12.5 (walls).
+PRINTED_WALLS = (
+    ("80 C3s", (20, 40, 20), 72, 89),
+    ("90 C3s", (30, 30, 30), 81, 93),
+    ("100 C3s", (30, 40, 30), 95, 104),
+    ("120 C3s", (40, 40, 40), 114, 123),
+    ("100 C5s", (20, 20, 20, 20, 20), 73, 84),
+    ("120 C5s", (30, 20, 20, 20, 30), 90, 101),
+    ("140 C5s", (40, 20, 20, 20, 40), 111, 121),
+    ("160 C5s", (40, 20, 40, 20, 40), 129, 137),
+)
+# Table 19: unclad ceilings.
+PRINTED_CEILINGS = (
+    ("100 L5s", (20, 20, 20, 20, 20), 73),
+    ("120 L5s", (30, 20, 20, 20, 30), 90),
+    ("140 L5s", (40, 20, 20, 20, 40), 111),
+    ("160 L5s", (40, 20, 40, 20, 40), 129),
+    ("180 L5s", (40, 30, 40, 30, 40), 143),
+    ("200 L5s", (40, 40, 40, 40, 40), 160),
+)
+
+
+def printed_cases():
+    """(panel, text): panels whose EI document 000 prints. Document 01 adds no delay (delta t) behind type F."""
+    behind_f = {"boards": (Board(F, 125, 100),), "failure_time": 55_000}
+    for name, lamellae, unclad, _ in PRINTED_WALLS:
+        yield crossed(*lamellae), f"table 16, {name}, printed {unclad}"
+    for name, lamellae, unclad in PRINTED_CEILINGS:
+        yield crossed(*lamellae), f"table 19, {name}, printed {unclad}"
+    for name, lamellae, _, behind in PRINTED_WALLS:
+        yield crossed(*lamellae)._replace(**behind_f), f"table 17, {name}, printed {behind}, delta t behind F left out"
+    yield crossed(30, 40, 30)._replace(**behind_f), "example A 1.4, printed 104.8, delta t behind F left out"
+
+
+def past_switch(panel, layer):
+    """2S - t of a layer: up to 0 its time is a difference, then a root."""
+    return 2 * sum(peer.layer_times(panel)[:layer]) - peer.basic_layers(panel)[layer][0]
+
+
+def switch_shapes():
+    """(text, layer, panels): panels of one shape, of which some have the layer at the switch."""
+    thicknesses = range(100, 601)
+    yield "last of two lamellae", 1, (
+        G._replace(moment=0, lamellae=((ALONG, first), (ACROSS, last))) for first in thicknesses for last in thicknesses)
+    yield "second of three lamellae", 1, (
+        G._replace(moment=0, lamellae=((ALONG, first), (ACROSS, second), (ALONG, 200)))
+        for first in thicknesses for second in thicknesses)
+    yield "lamella behind a board", 1, (
+        with_first_lamella(one(H, 150, joint), ALONG, first) for joint in range(60, 101) for first in thicknesses)
+    yield "board behind a board", 1, (
+        clad(Board(A, outer, 45), Board(H, inner, 90)) for outer in range(90, 251) for inner in range(90, 251))
+    yield "lamella behind two boards", 2, (
+        with_first_lamella(clad(Board(A, 125, outer), Board(H, 150, 30)), ALONG, first)
+        for outer in range(30, 101) for first in thicknesses)
+
+
+def switch_cases():
+    for text, layer, panels in switch_shapes():
+        panels = list(panels)
+        for past, where in ((-1, "2S = t - 1"), (0, "2S = t"), (1, "2S = t + 1")):
+            yield next(panel for panel in panels if past_switch(panel, layer) == past), f"{text}, {where}"
+
+
+def joint_cases():
+    for joint in (1, 2, 50, 99):
+        yield one(H, joint=joint), f"G under H 12.5, coefficient {joint}"
+    for outer, inner in ((1, 1), (1, 100), (100, 1), (80, 95), (99, 99), (100, 100)):
+        yield clad(Board(A, 125, outer), Board(H, 150, inner)), f"G under A 12.5 and H 15.0, coefficients {outer} and {inner}"
+
+
+def layer_panel_cases():
+    yield G, "G"
+    yield G._replace(lamellae=((ALONG, 300),) * 2 + ((ALONG, 400),)), "G's lamellae in another order, all along"
+    yield crossed(20, 20, 20)._replace(boards=(Board(A, 125, 100),)), "A 12.5, three lamellae of 20"
+    yield from reading_cases()
+    yield from joint_cases()
+    for thickness in (100, 200, 400, 600):
+        lamella = G._replace(moment=0, lamellae=((ALONG, thickness),))
+        yield lamella, f"one lamella of {thickness // 10}"
+        yield lamella._replace(boards=(Board(H, 90, 100),)), f"one lamella of {thickness // 10} under H 9.0"
+    yield SHORTEST._replace(boards=(Board(A, 250, 100),) * 2), "one lamella of 10 under two A 25.0"
+    yield LONGEST, "the longest record"
+    yield G._replace(moment=0, lamellae=((ALONG, 100),) * 9), "nine lamellae of 10"
+    yield summing_to(4_000), "nine lamellae, sum 4,000"
+    yield RECOVERS, "the panel that recovers"
+    yield TURNED, "that panel turned"
+    thickest = G._replace(moment=0, boards=(Board(H, 250, 100),) * 2, lamellae=((ALONG, 600),) * 6 + ((ALONG, 400),))
+    yield thickest, "two boards of 25.0, 400 mm"
+    yield from switch_cases()
+    yield from printed_cases()
+    yield G._replace(moment=43_057), "a refused record, so a blank panel"
+
+
+def sum_cases():
+    """(record, text)"""
+    for panel, text in layer_panel_cases():
+        yield peer.encode(panel), text
+    yield b"", "no bytes, so a blank panel"
+
+
+def grade_cases():
+    """(minute, text)"""
+    yield 0, "minute 0"
+    for grade in peer.GRADES:
+        yield grade - 1, f"a minute below {grade}"
+        yield grade, f"grade {grade}"
+    yield 95, "EI of G"
+    yield 103, "R of G, moment 3,000"
+    for minute in (361, 65_535):
+        yield minute, f"minute {minute:,}"
+
+
+def rei_cases():
+    """(r, ei, text)"""
+    yield 103, 95, "G, moment 3,000"
+    yield 84, 95, "G, moment 3,000, bond falls"
+    yield 138, 95, "G, moment 0"
+    for grade in peer.GRADES:
+        yield grade, grade - 1, f"R {grade}, EI a minute below"
+        yield grade - 1, grade, f"EI {grade}, R a minute below"
+    for r, ei in ((0, 0), (0, 360), (360, 0), (90, 90), (360, 360)):
+        yield r, ei, f"R {r}, EI {ei}"
+    for above in (361, 65_535):
+        for r, ei in ((above, 0), (0, above), (above, 360), (360, above), (above, above)):
+            yield r, ei, f"R {r:,}, EI {ei:,}"
+
+
 # ---------------------------------------------------------------- test_panels
 # The panels that the program builds itself, in its order. Unused places have no counterpart here, and a count of ten or more stands
 # as ten lamellae.
@@ -358,7 +499,11 @@ def built_panels():
 
 def refusals_line(panel, text):
     number = peer.panel_refusal(panel)
-    return f"{number} {number} {number} {number} {number} {text}\n"
+    return f"{number} {number} {number} {number} {number} {number} {number} {text}\n"
+
+
+def sum_line(panel, text):
+    return f"{'refused' if peer.panel_refusal(panel) else peer.ei_sum(panel)} {text}\n"
 
 
 def space_line(panel, text):
@@ -373,6 +518,8 @@ def built_lines():
     yield space_line(G, "record of the panel with unused places full")
     yield space_line(G, "record of the panel with unused places 0")
     yield f"{programs.compared(G, G)} unused places full and 0\n"
+    yield sum_line(G, "EI sum of the panel with unused places full")
+    yield sum_line(G, "EI sum of the panel with unused places 0")
     yield refusals_line(G._replace(lamellae=G.lamellae + ((255, 65_535),)), "a full place used")
     greatest = Panel(255, 255, 255, 65_535, 2 ** 32 - 1, 2 ** 32 - 1, (Board(255, 65_535, 255),) * 2, ((255, 65_535),) * 10)
     yield refusals_line(greatest, "all fields at their greatest")
@@ -387,7 +534,8 @@ def built_lines():
 # ---------------------------------------------------------------- Files
 
 # the word of the call: its cases
-CASES = {"read": record_cases, "write": write_cases, "section": section_cases, "build": build_cases}
+CASES = {"read": record_cases, "write": write_cases, "section": section_cases, "build": build_cases,
+         "time": time_cases, "sum": sum_cases, "grade": grade_cases, "rei": rei_cases}
 
 
 def store(repository, name, file, text):

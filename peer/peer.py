@@ -1,9 +1,10 @@
 """The CLT fire card in exact whole-number arithmetic, written from document 01 alone.
 
 A peer of the Rattle code: it shares no line with it, and the two are compared on the same records.
-Lengths are in tenths of mm, times in thousandths of a minute, unless a name says otherwise.
+Lengths are in tenths of mm, times in thousandths of a minute, layer times in hundredths, unless a name says otherwise.
 The parts stand in the order of the document's sections.
 """
+from functools import cache
 from typing import NamedTuple
 
 # ---------------------------------------------------------------- The panel record
@@ -257,3 +258,103 @@ def section(panel, depth):
 
 def depth_passes(panel, depth):
     return section(panel, depth)[5]
+
+
+# ---------------------------------------------------------------- Layer times
+
+def largest(keeps):
+    """The largest whole number that keeps to a rule; every smaller number keeps to it too."""
+    above = 1
+    while keeps(above):
+        above *= 2
+    found = 0
+    while above - found > 1:
+        middle = (found + above) // 2
+        if keeps(middle):
+            found = middle
+        else:
+            above = middle
+    return found
+
+
+@cache
+def basic_time(unit, reference, power, root, h):
+    """unit * (h / reference) ^ (power / root), rounded down."""
+    return largest(lambda v: v ** root * reference ** power <= unit ** root * h ** power)
+
+
+def gypsum_protection(h):
+    return basic_time(3_000, 150, 6, 5, h)
+
+
+def gypsum_insulation(h):
+    return basic_time(2_400, 150, 7, 5, h)
+
+
+def wood_protection(h):
+    return basic_time(3_000, 200, 11, 10, h)
+
+
+def wood_insulation(h):
+    return basic_time(1_900, 200, 7, 5, h)
+
+
+def board_time(rule, h):
+    """(refusal, time) at a bare thickness."""
+    return (0, rule(h)) if 90 <= h <= 250 else (8, 0)
+
+
+def lamella_time(rule, h):
+    """(refusal, time) at a bare thickness."""
+    return (0, rule(h)) if 100 <= h <= 600 else (11, 0)
+
+
+def layer_time(t, before, joint):
+    """What a layer of basic time t gives behind layers that give `before` together."""
+    if 2 * before <= t:
+        behind = (5 * t - 3 * before) // 5
+    else:
+        behind = largest(lambda n: 4 * n ** 2 * before <= t ** 3)
+    return behind * joint // 100
+
+
+def basic_layers(panel):
+    """(basic time, joint coefficient) of each layer, from the exposed side: protection, but for the last insulation."""
+    thicknesses = [thickness for _, thickness in panel.lamellae]
+    layers = [(gypsum_protection(board.thickness), board.joint) for board in panel.boards]
+    layers += [(wood_protection(thickness), 100) for thickness in thicknesses[:-1]]
+    return layers + [(wood_insulation(thicknesses[-1]), 100)]
+
+
+def layer_times(panel):
+    """What each layer of an accepted panel gives, from the exposed side."""
+    times = []
+    for t, joint in basic_layers(panel):
+        times.append(layer_time(t, sum(times), joint))
+    return times
+
+
+def ei_sum(panel):
+    return sum(layer_times(panel))
+
+
+def ei_minute(panel):
+    return min(360, ei_sum(panel) // 100)
+
+
+GRADES = (10, 15, 20, 30, 45, 60, 90, 120, 180, 240, 360)
+
+
+def grade(minute):
+    """The greatest grade not above the minute, else 0."""
+    return max([g for g in GRADES if g <= minute], default=0)
+
+
+def rei(r, ei):
+    """The grade of the lower of two minutes."""
+    return grade(min(r, ei))
+
+
+def minute_refusal(*minutes):
+    """15 where a bare minute is above 360, or 0."""
+    return 15 if any(minute > 360 for minute in minutes) else 0

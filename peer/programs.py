@@ -68,12 +68,64 @@ def build_answer(a, b, text):
     return f"{compared(panel_of(a), panel_of(b))} {text}"
 
 
+TIMES = {
+    "bp": (peer.board_time, peer.gypsum_protection),
+    "bi": (peer.board_time, peer.gypsum_insulation),
+    "lp": (peer.lamella_time, peer.wood_protection),
+    "li": (peer.lamella_time, peer.wood_insulation),
+}
+
+
+def time_line(kind, thickness, text):
+    return f"{kind} {thickness} {text}"
+
+
+def time_answer(kind, thickness, text):
+    time_at, rule = TIMES[kind]
+    refusal, time = time_at(rule, thickness)
+    return f"{refused(refusal) if refusal else time} {text}"
+
+
+def sum_line(record, text):
+    return f"{word(record)} {text}"
+
+
+def sum_answer(record, text):
+    panel = panel_of(record)
+    refusal = peer.panel_refusal(panel)
+    if refusal:
+        return f"{refused(refusal)} {text}"
+    return f"{peer.ei_sum(panel)} EI {peer.ei_minute(panel)} {text}"
+
+
+def grade_line(minute, text):
+    return f"{minute} {text}"
+
+
+def grade_answer(minute, text):
+    refusal = peer.minute_refusal(minute)
+    return f"{refused(refusal) if refusal else peer.grade(minute)} {text}"
+
+
+def rei_line(r, ei, text):
+    return f"{r} {ei} {text}"
+
+
+def rei_answer(r, ei, text):
+    refusal = peer.minute_refusal(r, ei)
+    return f"{refused(refusal) if refusal else peer.rei(r, ei)} {text}"
+
+
 # the word of the call: (what follows it in stdin, what follows it in stdout)
 CALLS = {
     "read": (read_line, read_answer),
     "write": (write_line, write_answer),
     "section": (section_line, section_answer),
     "build": (build_line, build_answer),
+    "time": (time_line, time_answer),
+    "sum": (sum_line, sum_answer),
+    "grade": (grade_line, grade_answer),
+    "rei": (rei_line, rei_answer),
 }
 
 

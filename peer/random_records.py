@@ -99,6 +99,16 @@ def at_a_limit(rng, panel):
     return panel._replace(lamellae=tuple((0, thickness) for _, thickness in panel.lamellae))
 
 
+def at_switch(rng, panel):
+    """The panel with its first or second lamella so thick that 2S comes nearest to its basic time t, or next to nearest."""
+    lamella = rng.randrange(min(2, len(panel.lamellae)))
+    before = sum(peer.layer_times(panel)[:len(panel.boards) + lamella])
+    basic_time = peer.wood_insulation if lamella == len(panel.lamellae) - 1 else peer.wood_protection
+    nearest = sorted(range(100, 601), key=lambda thickness: abs(2 * before - basic_time(thickness)))
+    changed = with_lamella(panel, lamella, panel.lamellae[lamella][0], nearest[rng.randrange(2)])
+    return changed._replace(moment=0)
+
+
 def with_length(record):
     """The record with its own length in the length field."""
     return len(record).to_bytes(2, "big") + record[2:]

@@ -1,8 +1,11 @@
 // Answers each line of the input: its first word names a call, and the module of that call says what follows and what is printed.
 // The answer begins with the same word. A line with another first word gives `unknown` and what follows.
 mod builds;
+mod gradings;
 mod reads;
 mod sections;
+mod sums;
+mod times;
 mod writes;
 
 use test_lines::input::after_word;
@@ -21,6 +24,14 @@ fn answer(line: &[u8]) {
         sections::answer(rest);
     } else if is_word(line, b"build") {
         builds::answer(rest);
+    } else if is_word(line, b"time") {
+        times::answer(rest);
+    } else if is_word(line, b"sum") {
+        sums::answer(rest);
+    } else if is_word(line, b"grade") {
+        gradings::answer_grade(rest);
+    } else if is_word(line, b"rei") {
+        gradings::answer_rei(rest);
     } else {
         output::text(b"unknown");
         output::end_line(rest);

@@ -98,6 +98,12 @@ pub fn number(word: &[u8]) -> u32 {
     n
 }
 
+// The same, at most the greatest u16.
+pub fn number16(word: &[u8]) -> u16 {
+    let n = number(word);
+    if n < 65535 { n as u16 } else { 65535 }
+}
+
 // A hexadecimal digit's value; 0 for any other character.
 fn hex_digit(c: u8) -> u8
     ensures { λ r. ⌜ r ≤ 15 ⌝ }

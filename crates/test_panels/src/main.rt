@@ -1,5 +1,7 @@
 // Panels that no record gives: built here, field by field, and handed to each open call. A line has the refusals of `panel_refusal`, of
-// `section`, of `write`, and of `same_build` with the panel in the first and in the second place, 0 for none, and the panel's name.
+// `section`, of `write`, of `same_build` with the panel in the first and in the second place, of `ei_sum` and of `ei`, 0 for none, and
+// the panel's name.
+use layers::LayerAnswer;
 use limits::BuildAnswer;
 use limits::SectionAnswer;
 use panel::Board;
@@ -34,6 +36,13 @@ fn build_refusal(a: Panel, b: Panel) -> u8 {
     }
 }
 
+fn layer_refusal(answer: LayerAnswer) -> u8 {
+    match answer {
+        LayerAnswer::Value(_) => 0,
+        LayerAnswer::Refused(n) => n,
+    }
+}
+
 fn print_refusal(n: u8) {
     output::number(n as u64);
     output::text(b" ");
@@ -44,7 +53,9 @@ fn print_panel(p: Panel, name: &[u8]) {
     print_refusal(section_refusal(p));
     print_refusal(write_refusal(p));
     print_refusal(build_refusal(p, g()));
-    output::number(build_refusal(g(), p) as u64);
+    print_refusal(build_refusal(g(), p));
+    print_refusal(layer_refusal(layers::calls::ei_sum(p)));
+    output::number(layer_refusal(layers::calls::ei(p)) as u64);
     output::end_line(name);
 }
 
@@ -53,6 +64,16 @@ fn print_record(p: Panel, name: &[u8]) {
     let mut space = [238u8; 64];
     record::calls::write(p, &mut space);
     output::hex(&space);
+    output::end_line(name);
+}
+
+// The sum of the layer times, in hundredths of a minute.
+fn print_sum(p: Panel, name: &[u8]) {
+    let answer = layers::calls::ei_sum(p);
+    match answer {
+        LayerAnswer::Value(sum) => output::number(sum as u64),
+        LayerAnswer::Refused(_) => output::text(b"refused"),
+    }
     output::end_line(name);
 }
 
@@ -207,6 +228,8 @@ fn print_unused() {
     print_record(full, b"record of the panel with unused places full");
     print_record(g(), b"record of the panel with unused places 0");
     print_build(full, g(), b"unused places full and 0");
+    print_sum(full, b"EI sum of the panel with unused places full");
+    print_sum(g(), b"EI sum of the panel with unused places 0");
     print_panel(unclad(4, directions, thicknesses), b"a full place used");
 }
 

@@ -1,0 +1,20 @@
+-- Unused places do not matter: panels that differ at most there have the same EI and meet the same refusals.
+use mathlib.Core.Path.{_≡_, refl}
+use Rattle.panel.specs.declared.Panel.{Panel}
+use Rattle.panel.specs.Lamellae.{SameUsed}
+use Rattle.panel.proofs.Used.{same-lamellae}
+use Rattle.limits.proofs.Unused.{refusal-unused}
+use Rattle.layers.specs.Layers.{eiSum}
+use Rattle.layers.specs.Answers.{eiAnswer, eiSumAnswer}
+
+sum-unused : (p q : Panel) → SameUsed p q → eiSum p ≡ eiSum q
+unfolding eiSum
+sum-unused p q h = rw (same-lamellae p q h, h .cladding) refl
+
+pub ei-sum-unused : (p q : Panel) → SameUsed p q → eiSumAnswer p ≡ eiSumAnswer q
+unfolding eiSumAnswer
+ei-sum-unused p q h = rw (refusal-unused p q h, sum-unused p q h) refl
+
+pub ei-unused : (p q : Panel) → SameUsed p q → eiAnswer p ≡ eiAnswer q
+unfolding eiAnswer
+ei-unused p q h = rw (refusal-unused p q h, sum-unused p q h) refl

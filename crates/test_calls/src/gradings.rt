@@ -1,0 +1,32 @@
+// `grade MINUTE TEXT`: the grade of a bare minute. `rei R EI TEXT`: the grade of the lower of two. Each prints the grade in minutes, or
+// the refusal, and the text.
+use grades::GradeAnswer;
+use test_lines::input::after_word;
+use test_lines::input::first_word;
+use test_lines::input::number16;
+use test_lines::output;
+
+fn print_answer(answer: GradeAnswer) {
+    match answer {
+        GradeAnswer::Of(grade) => output::number(grade.minutes as u64),
+        GradeAnswer::Refused(n) => {
+            output::text(b"refused ");
+            output::number(n as u64);
+        }
+    }
+}
+
+pub fn answer_grade(line: &[u8]) {
+    output::text(b"grade ");
+    print_answer(grades::calls::grade_of(number16(first_word(line))));
+    output::end_line(after_word(line));
+}
+
+pub fn answer_rei(line: &[u8]) {
+    let rest = after_word(line);
+    let r = number16(first_word(line));
+    let ei = number16(first_word(rest));
+    output::text(b"rei ");
+    print_answer(grades::calls::rei_of(r, ei));
+    output::end_line(after_word(rest));
+}
