@@ -1,13 +1,14 @@
 -- A table's rule, proved once: a test that is computed over the whole table, and what it says of each entry.
 use Prim.Native.Nat.{ℕ, zero, suc, _+_, _-_, _*_, _^_, _<_, _≤_}
-use mathlib.Core.Path.{_≡_, refl, sym, subst, _∙_}
+use mathlib.Core.Path.{_≡_, sym, subst, _∙_}
 use mathlib.Core.List.{List, [], _∷_}
-use mathlib.Core.Bool.{Bool, true, false, not, _&&_}
+use mathlib.Core.Bool.{Bool, true, not, _&&_}
 use native.Mathlib.Omega.{arith}
 use native.Mathlib.Nat.{add-zero, add-suc, suc-add, mul-le-mul-right, pow-le-pow-left, le-trans}
 use borrow.Author.Tests.{leb-true, le-leb, not-true}
 use lib.ListN.{length, getD}
 use lib.Dec.{T, leb, leb→le}
+use Rattle.numbers.proofs.Booleans.{T-left, T-right, T-true}
 use Rattle.numbers.proofs.LargestKept.{IsLargest, largest-is, largest-by-next}
 use Rattle.basic_times.specs.Rules.{keeps, basicTime}
 
@@ -31,12 +32,6 @@ abbrev pub allRight : (ℕ → ℕ → Bool) → ℕ → List ℕ → Bool
 allRight test h [] = true
 allRight test h (v ∷ vs) = test h v && allRight test (suc h) vs
 
-T-left : (a b : Bool) → T (a && b) → T a
-T-left true b t = tt
-
-T-right : (a b : Bool) → T (a && b) → T b
-T-right true b t = t
-
 -- the test at an entry
 at-entry :
     (test : ℕ → ℕ → Bool) (first : ℕ) (vs : List ℕ) → T (allRight test first vs) → (i : ℕ) → i < length vs
@@ -46,9 +41,6 @@ at-entry test first (v ∷ vs) t zero h = rw (add-zero first) (T-left (test firs
 at-entry test first (v ∷ vs) t (suc i) h =
     subst (λ (k : ℕ). T (test k (getD vs i 0))) (suc-add first i ∙ sym (add-suc first i))
     (at-entry test (suc first) vs (T-right (test first v) (allRight test (suc first) vs) t) i (omega arith))
-
-T-true : (b : Bool) → T b → b ≡ true
-T-true true t = refl
 
 -- an entry that passes is the largest number that keeps to the rule
 pub right-largest :

@@ -1,17 +1,15 @@
 -- "Each entry is the largest whole number whose fifth or tenth power keeps to the rule", for every thickness of each table: one
 -- law with base, reference, power and root open, and what it says of the four tables.
 use Prim.Native.Nat.{ℕ, suc, _*_, _^_, _<_, _≤_}
-use mathlib.Core.Path.{_≡_, refl, sym, ap, _∙_}
-use mathlib.Core.Bool.{Bool, true, false, not}
+use mathlib.Core.Path.{_≡_, ap, _∙_}
+use mathlib.Core.Bool.{true, false, not}
 use native.Mathlib.Omega.{arith}
-use native.Mathlib.Nat.{zero-mul, pow-succ', mul-le-mul, mul-le-mul-left, mul-le-mul-right, pow-le-pow-left, le-trans, le-refl}
-use borrow.Author.Tests.{leb-true, le-leb, leb-false, lt-leb}
-use lib.Dec.{T, leb}
+use native.Mathlib.Nat.{zero-mul, pow-succ', mul-le-mul-left, mul-le-mul-right, pow-le-pow-left}
+use borrow.Author.Tests.{le-leb, leb-false, lt-leb}
+use lib.Dec.{T}
+use Rattle.numbers.proofs.Booleans.{T-false}
 use Rattle.numbers.proofs.LargestKept.{IsLargest, largest-found, largest-within}
 use Rattle.basic_times.specs.Rules.{keeps, basicTime, gypsumProtection, gypsumInsulation, woodProtection, woodInsulation}
-
-not-T : (b : Bool) → T (not b) → b ≡ false
-not-T false t = refl
 
 -- 0 keeps to every rule
 keeps-zero : (base reference power root h : ℕ) → keeps base reference power (suc root) h 0 ≡ true
@@ -37,7 +35,7 @@ basic-largest base reference power root top t h l =
     largest-found (keeps base reference power (suc root) h) (5 * base) (keeps-zero base reference power root h)
     (λ m k.
     fails-on base reference power (suc root) h top (suc (5 * base)) m l k
-    (not-T (keeps base reference power (suc root) top (suc (5 * base))) t))
+    (T-false (keeps base reference power (suc root) top (suc (5 * base))) t))
 
 -- no basic time is above five times its base
 pub basic-most : (base reference power root h : ℕ) → basicTime base reference power root h ≤ 5 * base

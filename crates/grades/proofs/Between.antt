@@ -7,19 +7,13 @@ use native.Mathlib.Omega.{arith}
 use borrow.Author.Tests.{le-leb, lt-leb, leb-true}
 use lib.Dec.{T, leb, leb→le}
 use Rattle.numbers.specs.Choice.{pick}
-use Rattle.grades.specs.declared.Grade.{Grade}
+use Rattle.numbers.proofs.Booleans.{T-left, T-right}
 use Rattle.grades.specs.Grades.{grades, greatestTo, gradeOf}
 
 -- no number of the list lies between low and high
 abbrev apart : ℕ → ℕ → List ℕ → Bool
 apart low high [] = true
 apart low high (g ∷ gs) = (leb g low || leb high g) && apart low high gs
-
-T-left : (a b : Bool) → T (a && b) → T a
-T-left true b t = tt
-
-T-right : (a b : Bool) → T (a && b) → T b
-T-right true b t = t
 
 same-test : (low high g m : ℕ) → T (leb g low || leb high g) → low ≤ m → m < high → leb g m ≡ leb g low
 same-test low high g m t l h = go (leb g low) refl t

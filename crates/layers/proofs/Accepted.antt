@@ -1,5 +1,4 @@
 -- An accepted panel has layers with basic times.
-use Prim.Native.Nat.{ℕ, _≤_}
 use mathlib.Core.Path.{_≡_}
 use mathlib.Core.Bool.{false}
 use Rattle.numbers.specs.Choice.{outside}
@@ -9,7 +8,8 @@ use Rattle.panel.specs.declared.Cladding.the-variants.{Unclad, One, Two}
 use Rattle.panel.specs.declared.Panel.{Panel}
 use Rattle.limits.specs.Causes.{badBoard, badBoards}
 use Rattle.limits.specs.Refusals.{panelRefusal}
-use Rattle.limits.proofs.Accepted.{or-none, in-range, none-fits, lamella-within}
+use Rattle.numbers.proofs.Booleans.{or-none, in-range}
+use Rattle.limits.proofs.Accepted.{none-fits, lamella-within}
 use Rattle.layers.specs.Fits.{BoardFits, CladdingFits, LayersFit}
 
 board-fits : (b : Board) → badBoard b ≡ false → BoardFits b

@@ -1,13 +1,13 @@
 -- The late layer time: the numbers with 4·n²·S ≤ t³, where t < 2S.
-use Prim.Native.Nat.{ℕ, suc, _+_, _-_, _*_, _/_, _<_, _≤_}
-use mathlib.Core.Path.{_≡_, refl, sym, _∙_}
+use Prim.Native.Nat.{ℕ, _+_, _*_, _<_, _≤_}
+use mathlib.Core.Path.{_≡_, refl, sym}
 use mathlib.Core.Bool.{Bool, true, false}
 use native.Mathlib.Omega.{arith}
 use native.Mathlib.Numerals.{add-one}
-use native.Mathlib.Nat.{le-trans, mul-le-mul, le-refl, mul-le-mul-left, mul-le-mul-right}
-use borrow.Author.Tests.{leb-true, leb-false, le-leb, lt-leb}
-use lib.Dec.{leb}
+use native.Mathlib.Nat.{le-trans, mul-le-mul, mul-le-mul-left, mul-le-mul-right}
+use borrow.Author.Tests.{leb-true, le-leb, lt-leb}
 use Rattle.numbers.specs.Largest.{largest}
+use Rattle.numbers.proofs.Booleans.{not-both}
 use Rattle.numbers.proofs.LargestKept.{IsLargest, largest-is, largest-by-next, largest-found}
 use Rattle.layers.specs.Layers.{lateKeeps, positioned}
 
@@ -56,6 +56,5 @@ late-largest s t h =
     go m k true e =
         let less : t + 1 ≤ m = omega arith in
         let kept : lateKeeps s t (t + 1) ≡ true = late-down s t (t + 1) m less e in
-        let fails = late-beyond s t h in
-        absurd (let z : _≡_ {A = ℕ} 0 1 = cc in let n : ⊥ = omega arith in n)
+        absurd (not-both (lateKeeps s t (t + 1)) kept (late-beyond s t h))
     go m k false e = e

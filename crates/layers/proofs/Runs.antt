@@ -4,7 +4,7 @@ use mathlib.Core.Path.{_≡_, refl, sym, ap, _∙_}
 use mathlib.Core.List.{List, [], _∷_, _++_, map, map-append, append-assoc}
 use native.Mathlib.Numerals.{add-one}
 use lib.ListN.{getD}
-use Rattle.panel.specs.Lamellae.{Lamella, lamella, lamellaeOf}
+use Rattle.panel.specs.Lamellae.{lamella, lamellaeOf}
 use Rattle.layers.specs.Layers.{Layer, wood, withProtection, withInsulation, protectedAfter, sumAfter}
 
 protected-append : (s : ℕ) (xs ys : List Layer) → protectedAfter s (xs ++ ys) ≡ protectedAfter (protectedAfter s xs) ys

@@ -1,5 +1,4 @@
 -- What the open calls of this crate answer, by document 01's number: 0 is no refusal.
-use Prim.Native.Nat.{ℕ}
 use Rattle.panel.specs.declared.Panel.{Panel}
 use Rattle.limits.specs.Lines.{answer}
 use Rattle.limits.specs.Refusals.{panelRefusal}

@@ -8,7 +8,7 @@ use panel::Cladding;
 use panel::Panel;
 ghost use mathlib.Core.Path.{_≡_};
 ghost use mathlib.Core.List.{List, [], _∷_, map};
-ghost use Prim.Native.Nat.{ℕ, _+_, _*_, _≤_};
+ghost use Prim.Native.Nat.{ℕ, _+_, _≤_};
 ghost use Rattle.panel.specs.Boards.{boardsOf};
 ghost use Rattle.panel.specs.Lamellae.{lamella, lamellaeOf};
 ghost use Rattle.layers.specs.Layers.{board, wood, withProtection, withInsulation, protectedAfter, eiSum};

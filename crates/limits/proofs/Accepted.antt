@@ -1,39 +1,29 @@
 -- What holds of a panel that no line turns back, as inequalities: the limits that later calls work within.
-use Prim.Native.Nat.{ℕ, zero, suc, _+_, _-_, _*_, _<_, _≤_}
-use mathlib.Core.Path.{_≡_, refl, sym, ap, _∙_}
-use mathlib.Core.List.{List, [], _∷_, _++_}
-use mathlib.Core.Bool.{Bool, true, false, not, _&&_, _||_}
+use Prim.Native.Nat.{ℕ, zero, suc, _+_, _*_, _<_, _≤_}
+use mathlib.Core.Path.{_≡_, sym, _∙_}
+use mathlib.Core.List.{List, [], _∷_}
+use mathlib.Core.Bool.{Bool, true, false}
 use native.Mathlib.Omega.{arith}
 use native.Mathlib.Decide.{decLt}
-use borrow.Author.Tests.{ltb-false, not-false, not-true}
+use borrow.Author.Tests.{ltb-false, not-false}
 use lib.ListN.{getD}
 use lib.Dec.{ltb, eqb}
 use mathlib.Core.Logic.{_↔_}
 use native.Mathlib.Nat.{le-trans, le-add-right}
 use Rattle.numbers.specs.Choice.{pick, outside}
+use Rattle.numbers.proofs.Booleans.{or-none, in-range}
 use Rattle.panel.specs.declared.Board.{Board}
 use Rattle.panel.specs.declared.Cladding.{Cladding}
 use Rattle.panel.specs.declared.Cladding.the-variants.{Unclad, One, Two}
 use Rattle.panel.specs.declared.Panel.{Panel}
-use Rattle.panel.specs.Lamellae.{Lamella, lamella, lamellae, lamellaeOf, along, thickness}
-use Rattle.panel.specs.Boards.{gapLoss, innerGain, known, isF}
+use Rattle.panel.specs.Lamellae.{Lamella, lamella, lamellae, lamellaeOf, thickness}
+use Rattle.panel.specs.Boards.{gapLoss, innerGain}
 use Rattle.section.specs.Tests.{SectionFits, depthPasses}
 use Rattle.limits.specs.Lines.{Line, line, NoneFits}
-use Rattle.limits.specs.Causes.{badTypes, badBoard, badBoards, badLamella, badLamellae, noneAlong, badFailureTime, badCount, some}
+use Rattle.limits.specs.Causes.{badBoard, badBoards, badLamella, badLamellae, noneAlong, badCount, some}
 use Rattle.limits.specs.Refusals.{headLines, panelLines, upperLines, panelRefusal, Loaded}
 use Rattle.limits.proofs.FirstLine.{First, accepted-iff, refusal-first}
 use Rattle.limits.proofs.Tests.{some-more}
-
--- Tests that fail
-
-pub or-none : (a b : Bool) → (a || b) ≡ false → (a ≡ false) × (b ≡ false)
-or-none true b e = absurd (let z : _≡_ {A = ℕ} 0 1 = cc in let n : ⊥ = omega arith in n)
-or-none false b e = (refl, e)
-
-pub in-range : (least greatest x : ℕ) → outside least greatest x ≡ false → (least ≤ x) × (x ≤ greatest)
-in-range least greatest x e =
-    let h = or-none (ltb x least) (ltb greatest x) e in
-    (ltb-false x least (h .0), ltb-false greatest x (h .1))
 
 -- Lines that do not fit
 

@@ -2,18 +2,13 @@
 use Prim.Native.Nat.{ℕ, zero, suc, _<_}
 use mathlib.Core.Path.{_≡_, refl, sym, ap, _∙_}
 use mathlib.Core.List.{List, [], _∷_, _++_}
-use mathlib.Core.Bool.{Bool, true, false, _&&_}
+use mathlib.Core.Bool.{Bool, true, false}
 use mathlib.Core.Logic.{_↔_}
 use native.Mathlib.Omega.{arith}
 use lib.Dec.{T, ltb, ltb→lt}
 use Rattle.numbers.specs.Choice.{pick}
+use Rattle.numbers.proofs.Booleans.{T-left, T-right}
 use Rattle.limits.specs.Lines.{Line, firstOr, refusal, NoneFits, numbered, answer}
-
-T-left : (a b : Bool) → T (a && b) → T a
-T-left true b t = tt
-
-T-right : (a b : Bool) → T (a && b) → T b
-T-right true b t = t
 
 pick-none : (c : Bool) (n below : ℕ) → T (ltb 0 n) → pick c n below ≡ 0 → (c ≡ false) × (below ≡ 0)
 pick-none true n below t e = absurd (let h : 0 < n = ltb→lt 0 n t in let z : ⊥ = omega arith in z)

@@ -1,39 +1,20 @@
 -- Tests over lamellae, with one lamella more.
-use Prim.Native.Nat.{ℕ, suc}
-use mathlib.Core.Path.{_≡_, refl, sym, ap, ap₂, _∙_}
+use Prim.Native.Nat.{suc}
+use mathlib.Core.Path.{_≡_, refl, ap, _∙_}
 use mathlib.Core.List.{List, [], _∷_, _++_}
-use mathlib.Core.Bool.{Bool, true, false, _&&_, _||_}
+use mathlib.Core.Bool.{Bool, false, _&&_, _||_, or-false, and-true, and-false}
+use Rattle.numbers.proofs.Booleans.{or-assoc, and-assoc}
 use native.Mathlib.Omega.{arith}
 use lib.ListN.{length}
 use Rattle.panel.specs.Lamellae.{Lamella}
 use Rattle.panel.specs.Builds.{sameLamella, sameLamellae}
 use Rattle.limits.specs.Causes.{some}
 
-or-false : (a : Bool) → a ≡ (a || false)
-or-false true = refl
-or-false false = refl
-
-or-assoc : (a b c : Bool) → (a || (b || c)) ≡ ((a || b) || c)
-or-assoc true b c = refl
-or-assoc false b c = refl
-
 -- some lamella of one more: some of the former, or the last
 pub some-more : (test : Lamella → Bool) (ls : List Lamella) (l : Lamella) → some test (ls ++ (l ∷ [])) ≡ (some test ls || test l)
 unfolding some
-some-more test [] l = sym (or-false (test l))
+some-more test [] l = or-false (test l)
 some-more test (x ∷ ls) l = ap (λ (t : Bool). test x || t) (some-more test ls l) ∙ or-assoc (test x) (some test ls) (test l)
-
-and-assoc : (a b c : Bool) → (a && (b && c)) ≡ ((a && b) && c)
-and-assoc true b c = refl
-and-assoc false b c = refl
-
-and-true : (a : Bool) → (a && true) ≡ a
-and-true true = refl
-and-true false = refl
-
-and-false : (a : Bool) → (a && false) ≡ false
-and-false true = refl
-and-false false = refl
 
 -- two runs of equal length with one lamella more: the former agree, and the last
 pub sameLamellae-more :

@@ -1,7 +1,7 @@
 -- The causes of lines 3 to 13 of document 01's table, each as a test of a panel.
 use Prim.Native.Nat.{ℕ}
 use mathlib.Core.List.{List, [], _∷_}
-use mathlib.Core.Bool.{Bool, true, false, not, _&&_, _||_}
+use mathlib.Core.Bool.{Bool, false, not, _&&_, _||_}
 use lib.Dec.{eqb, ltb}
 use Rattle.numbers.specs.Choice.{outside}
 use Rattle.panel.specs.declared.Board.{Board}

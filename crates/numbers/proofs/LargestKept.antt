@@ -5,14 +5,12 @@ use mathlib.Core.Bool.{Bool, true, false}
 use native.Mathlib.Omega.{arith}
 use native.Mathlib.Decide.{decLt}
 use Rattle.numbers.specs.Largest.{largest}
+use Rattle.numbers.proofs.Booleans.{not-both}
 
 -- v is the largest number that keeps the test, whatever the bound
 pub record IsLargest (test : ℕ → Bool) (v : ℕ) : Type 0 where
   pub kept : test v ≡ true
   pub beyond : (m : ℕ) → v < m → test m ≡ false
-
-not-both : (b : Bool) → b ≡ true → b ≡ false → ⊥
-not-both b e f = let z : _≡_ {A = ℕ} 0 1 = cc in omega arith
 
 -- what is largest of all is found below any bound that it keeps to
 pub largest-is : (test : ℕ → Bool) (bound v : ℕ) → IsLargest test v → v ≤ bound → largest test bound ≡ v

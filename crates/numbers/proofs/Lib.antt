@@ -1,3 +1,4 @@
+pub mod Booleans
 pub mod Digits
 pub mod FirstValues
 pub mod LargestKept

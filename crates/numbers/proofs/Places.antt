@@ -3,7 +3,7 @@ use Prim.Native.Nat.{ℕ, zero, suc, _+_}
 use mathlib.Core.Path.{_≡_, refl, sym, ap, ap₂, _∙_}
 use mathlib.Core.List.{List, [], _∷_, _++_}
 use native.Mathlib.Numerals.{add-one}
-use native.Mathlib.Nat.{add-zero, add-suc, suc-add, zero-add, add-assoc}
+use native.Mathlib.Nat.{add-zero, suc-add, zero-add, add-assoc}
 use lib.ListN.{length, getD, drop}
 use lib.Seq.{getD-drop}
 

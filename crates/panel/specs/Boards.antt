@@ -1,7 +1,7 @@
 -- Document 01, "The panel record" and "Charring": the boards, and when charring starts behind them.
 use Prim.Native.Nat.{ℕ, _+_, _-_, _*_}
 use mathlib.Core.List.{List, [], _∷_}
-use mathlib.Core.Bool.{Bool, true, false, not, _||_}
+use mathlib.Core.Bool.{Bool, false, _||_}
 use lib.Dec.{eqb}
 use Rattle.numbers.specs.Choice.{pick}
 use Rattle.panel.specs.declared.Board.{Board}

@@ -1,6 +1,5 @@
 -- Document 01: "Two panels are the same build when boards and lamellae agree, in order; load, bond, rate, gap and failure time
 -- are not looked at."
-use Prim.Native.Nat.{ℕ}
 use mathlib.Core.List.{List, [], _∷_}
 use mathlib.Core.Bool.{Bool, true, false, _&&_}
 use lib.Dec.{eqb}

@@ -1,8 +1,7 @@
 -- The record of an accepted panel is accepted.
 use Prim.Native.Nat.{ℕ, _+_, _*_, _≤_}
-use mathlib.Core.Path.{_≡_, refl, sym, ap, ap₂, _∙_}
-use mathlib.Core.List.{List}
-use mathlib.Core.Bool.{Bool, false, not, _||_}
+use mathlib.Core.Path.{_≡_, refl, sym, ap, _∙_}
+use mathlib.Core.Bool.{false, not}
 use native.Mathlib.Omega.{arith}
 use borrow.Author.Tests.{le-ltb, eq-eqb}
 use lib.ListN.{length}
@@ -15,20 +14,18 @@ use Rattle.panel.specs.declared.Cladding.the-variants.{Unclad, One, Two}
 use Rattle.panel.specs.declared.Panel.{Panel}
 use Rattle.panel.specs.Lamellae.{cleared}
 use Rattle.panel.proofs.Used.{cleared-same}
-use Rattle.limits.specs.Lines.{NoneFits, refusal}
+use Rattle.limits.specs.Lines.{refusal}
 use Rattle.limits.specs.Causes.{badCount}
 use Rattle.limits.specs.Refusals.{panelRefusal}
 use Rattle.limits.proofs.FirstLine.{none-first}
-use Rattle.limits.proofs.Accepted.{in-range, none-fits}
+use Rattle.numbers.proofs.Booleans.{in-range, none-or}
+use Rattle.limits.proofs.Accepted.{none-fits}
 use Rattle.limits.proofs.Unused.{refusal-unused}
 use Rattle.panel.specs.Boards.{boardsOf}
-use Rattle.record.specs.Layouts.{lamellaCount, recordLength, panelOf, encode}
+use Rattle.record.specs.Layouts.{lamellaCount, recordLength, encode}
 use Rattle.record.specs.Refusals.{badLength, badBoardCount, badLamellaCount, recordLines, recordRefusal}
 use Rattle.record.proofs.Lengths.{length-encode}
 use Rattle.record.proofs.There.{count-there, panel-there}
-
-or-false : (a b : Bool) → a ≡ false → b ≡ false → (a || b) ≡ false
-or-false a b e f = ap₂ (λ (x y : Bool). x || y) e f
 
 at-most-two : (c : Cladding) → length (boardsOf c) ≤ 2
 at-most-two Unclad = omega arith
@@ -44,22 +41,22 @@ module _ (p : Panel) (least : 1 ≤ p .count) (most : p .count ≤ 9) where
       let boards = at-most-two (p .cladding) in
       let low : 21 ≤ length (encode p) = omega (arith, length-encode p) in
       let high : length (encode p) ≤ 53 = omega (arith, length-encode p) in
-      or-false (outside 21 53 (length (encode p))) (not (eqb (number (encode p) 0 2) (length (encode p))))
-      (or-false (ltb (length (encode p)) 21) (ltb 53 (length (encode p))) (le-ltb (length (encode p)) 21 low) (le-ltb 53 (length (encode p)) high))
+      none-or (outside 21 53 (length (encode p))) (not (eqb (number (encode p) 0 2) (length (encode p))))
+      (none-or (ltb (length (encode p)) 21) (ltb 53 (length (encode p))) (le-ltb (length (encode p)) 21 low) (le-ltb 53 (length (encode p)) high))
       (ap not (eq-eqb (number (encode p) 0 2) (length (encode p)) (number-bytes 1 (recordLength p) ∙ sym (length-encode p))))
 
   line-six : badBoardCount (encode p) ≡ false
   unfolding encode
   line-six =
       let k = length (boardsOf (p .cladding)) in
-      or-false (ltb 2 k) (ltb (length (encode p)) (21 + 4 * k)) (le-ltb 2 k (at-most-two (p .cladding)))
+      none-or (ltb 2 k) (ltb (length (encode p)) (21 + 4 * k)) (le-ltb 2 k (at-most-two (p .cladding)))
       (le-ltb (length (encode p)) (21 + 4 * k) (omega (arith, length-encode p)))
 
   line-ten : badCount (p .count) ≡ false → badLamellaCount (encode p) ≡ false
   unfolding encode
   line-ten e =
       let k = length (boardsOf (p .cladding)) in
-      or-false (badCount (lamellaCount (encode p))) (not (eqb (length (encode p)) (18 + 4 * k + 3 * lamellaCount (encode p))))
+      none-or (badCount (lamellaCount (encode p))) (not (eqb (length (encode p)) (18 + 4 * k + 3 * lamellaCount (encode p))))
       (ap badCount (count-there p) ∙ e)
       (ap not (eq-eqb (length (encode p)) (18 + 4 * k + 3 * lamellaCount (encode p)) (length-encode p ∙ ap (λ (n : ℕ). 18 + 4 * k + 3 * n) (sym (count-there p)))))
 

@@ -11,25 +11,7 @@ use Rattle.numbers.proofs.Digits.{AreBytes, join-fields}
 use Rattle.numbers.proofs.Places.{places, span, places-append, places-drop, places-all}
 use Rattle.panel.specs.Lamellae
 use Rattle.panel.specs.Boards.{boardsOf}
-use Rattle.record.specs.Layouts.{
-  frontWidths,
-  headWidths,
-  boardWidths,
-  countWidths,
-  lamellaWidths,
-  body,
-  boardCount,
-  lamellaCount,
-  lamellaPart,
-  lamellaFrom,
-  lamellaeIn,
-  claddingAt,
-  boardBytes,
-  lamellaBytes,
-  recordLength,
-  panelOf,
-  encode,
-}
+use Rattle.record.specs.Layouts.{frontWidths, headWidths, boardWidths, lamellaWidths, body, boardCount, lamellaCount, lamellaPart, lamellaFrom, lamellaeIn, claddingAt, boardBytes, lamellaBytes, recordLength, panelOf, encode}
 use Rattle.record.proofs.Lengths.{lamellaBytes-more}
 use Rattle.record.proofs.Sound.{Sound, boards-counted, record-lamellae}
 

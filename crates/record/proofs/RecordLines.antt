@@ -9,14 +9,14 @@ use lib.Seq.{sets}
 use lib.Dec.{eqb}
 use Rattle.numbers.specs.Choice.{pick}
 use Rattle.numbers.specs.Bytes.{fields}
-use Rattle.panel.specs.declared.Cladding.{Cladding}
 use Rattle.panel.specs.declared.Cladding.the-variants.{Two}
 use Rattle.panel.specs.declared.Panel.{Panel}
 use Rattle.limits.specs.Lines.{line, NoneFits}
 use Rattle.limits.specs.Causes.{badCount}
 use Rattle.limits.specs.Refusals.{Loaded, panelLines, panelRefusal}
 use Rattle.limits.proofs.FirstLine.{first-none, first-some, none-first, none-left, refused, answered}
-use Rattle.limits.proofs.Accepted.{or-none, loaded-by, none-fits}
+use Rattle.numbers.proofs.Booleans.{or-none}
+use Rattle.limits.proofs.Accepted.{loaded-by, none-fits}
 use Rattle.record.specs.Layouts.{boardCount, lamellaCount, claddingAt, boardFrom, boardWidths, recordLength, encode}
 use Rattle.record.specs.declared.Writing.the-variants.{Written, Refused}
 use Rattle.record.specs.Answers.{writeAnswer, spaceAfter}

@@ -1,7 +1,7 @@
 -- Demand 2: "Records are read and written by the layout, and each gives back the other, a panel's unused places as 0."
 -- Both theorems are about the definitions, which `read` and `write` are proved equal to.
 use Prim.Native.Nat.{ℕ, _≤_}
-use mathlib.Core.Path.{_≡_, refl, sym, ap, ap₂, _∙_}
+use mathlib.Core.Path.{_≡_, sym, ap, ap₂, _∙_}
 use mathlib.Core.List.{List, _++_}
 use native.Mathlib.Omega.{arith}
 use lib.ListN.{length, take, drop}
@@ -9,12 +9,12 @@ use lib.Seq.{take-at}
 use Rattle.numbers.proofs.Digits.{AreBytes}
 use Rattle.panel.specs.declared.Panel.{Panel}
 use Rattle.panel.specs.Lamellae.{cleared}
-use Rattle.limits.specs.Refusals.{panelRefusal, panelLines}
+use Rattle.limits.specs.Refusals.{panelRefusal}
 use Rattle.limits.proofs.FirstLine.{answered}
 use Rattle.limits.proofs.Accepted.{accepted-loaded}
 use Rattle.record.specs.declared.Writing.the-variants.{Written, Refused}
 use Rattle.record.specs.Layouts.{recordLength, panelOf, encode}
-use Rattle.record.specs.Refusals.{recordRefusal, writeRefusal, shortFor}
+use Rattle.record.specs.Refusals.{recordRefusal, writeRefusal}
 use Rattle.record.specs.Answers.{decode, reading, blank, writeAnswer, spaceAfter}
 use Rattle.record.proofs.Lengths.{length-encode}
 use Rattle.record.proofs.RecordLines.{write-taken, write-accepted}

@@ -1,26 +1,25 @@
 -- What an accepted record's lines say of its bytes.
-use Prim.Native.Nat.{ℕ, zero, suc, _+_, _*_, _<_, _≤_, min}
-use mathlib.Core.Path.{_≡_, refl, sym, ap, ap₂, _∙_}
-use mathlib.Core.List.{List, [], _∷_, _++_, map}
-use mathlib.Core.Bool.{Bool, true, false, not, _||_}
+use Prim.Native.Nat.{ℕ, zero, suc, _+_, _*_, _≤_, min}
+use mathlib.Core.Path.{_≡_, refl, sym, ap, _∙_}
+use mathlib.Core.List.{List, map}
+use mathlib.Core.Bool.{not}
 use native.Mathlib.Omega.{arith}
 use borrow.Author.Tests.{ltb-false, eqb-true, not-false}
-use lib.ListN.{length, getD}
+use lib.ListN.{length}
 use lib.Dec.{ltb, eqb}
 use mathlib.Core.Logic.{_↔_}
 use Rattle.numbers.specs.Choice.{outside}
-use Rattle.numbers.specs.Bytes.{number, fields}
-use Rattle.panel.specs.declared.Cladding.{Cladding}
+use Rattle.numbers.specs.Bytes.{number}
 use Rattle.panel.specs.Lamellae.{Lamella, lamellae, lamellaeOf, nine}
 use Rattle.panel.proofs.Used.{lamellaeOf-nine}
 use Rattle.limits.specs.Lines.{NoneFits}
 use Rattle.limits.specs.Causes.{badCount}
 use Rattle.limits.specs.Refusals.{panelLines, panelRefusal}
 use Rattle.limits.proofs.FirstLine.{First, accepted-iff, refusal-first, none-first}
-use Rattle.limits.proofs.Accepted.{or-none, in-range}
+use Rattle.numbers.proofs.Booleans.{or-none, in-range}
 use Rattle.panel.specs.Boards.{boardsOf}
-use Rattle.record.specs.Layouts.{frontWidths, boardCount, lamellaCount, lamellaPart, claddingAt, lamellaeIn, recordLamellae, panelOf, recordLength}
-use Rattle.record.specs.Refusals.{badLength, badBoardCount, badLamellaCount, recordLines, recordRefusal}
+use Rattle.record.specs.Layouts.{boardCount, lamellaCount, lamellaPart, claddingAt, lamellaeIn, panelOf}
+use Rattle.record.specs.Refusals.{recordLines, recordRefusal}
 use Rattle.record.proofs.Arrays.{length-lamellaeIn}
 
 -- the bytes of an accepted record

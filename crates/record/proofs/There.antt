@@ -2,15 +2,11 @@
 use Prim.Native.Nat.{ℕ, zero, suc, _+_, _*_, _<_, _≤_, min}
 use mathlib.Core.Path.{_≡_, refl, sym, ap, ap₂, _∙_}
 use mathlib.Core.List.{List, [], _∷_, _++_, append-assoc}
-use mathlib.Core.Bool.{Bool, true, false, not, _||_}
 use native.Mathlib.Omega.{arith}
 use native.Mathlib.Nat.{mul-suc}
-use borrow.Author.Tests.{le-ltb, eq-eqb}
-use lib.ListN.{length, getD, drop, length-append}
+use lib.ListN.{length, getD, length-append}
 use lib.Seq.{getD-at, drop-at}
-use lib.Dec.{ltb, eqb}
-use Rattle.numbers.specs.Choice.{outside}
-use Rattle.numbers.specs.Bytes.{number, bytes, fields, join}
+use Rattle.numbers.specs.Bytes.{number, fields, join}
 use Rattle.numbers.proofs.Digits.{number-cons, number-bytes}
 use Rattle.numbers.proofs.FirstValues.{firsts-getD}
 use Rattle.panel.specs.declared.Cladding.{Cladding}
@@ -38,7 +34,7 @@ use Rattle.record.specs.Layouts.{
   panelOf,
   encode,
 }
-use Rattle.record.proofs.Lengths.{length-boardBytes, length-lamellaBytes}
+use Rattle.record.proofs.Lengths.{length-boardBytes}
 
 -- three bytes in front move every place up by three
 number-past : (x y z : ℕ) (l : List ℕ) (at w : ℕ) → number (x ∷ y ∷ z ∷ l) (at + 3) w ≡ number l at w

@@ -1,6 +1,6 @@
 -- `basic_times::calls::board_protection` meets its contract: the test decides between the refusal and the table. Assumes nothing.
 use Rattle.basic_times.specs.declared.TimeAnswer.the-variants.{Time}
-use Rattle.limits.proofs.Accepted.{in-range}
+use Rattle.numbers.proofs.Booleans.{in-range}
 use mathlib.Core.Path.{ap}
 use Rattle.basic_times.proofs.calls.board_protection.Statement.{statement}
 use Rattle.basic_times.proofs.calls.board_protection.Tie as tie

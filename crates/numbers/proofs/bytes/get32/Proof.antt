@@ -1,5 +1,4 @@
 use borrow.Author.Needs.{needs}
-use native.Mathlib.Omega.{arith}
 use native.Mathlib.Nat.{add-assoc}
 use Rattle.numbers.proofs.bytes.get32.Statement.{statement}
 use Rattle.numbers.proofs.bytes.get32.Tie as tie
