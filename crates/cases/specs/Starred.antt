@@ -5,7 +5,7 @@ use mathlib.Core.Bool.{Bool, true, false, _&&_}
 use lib.Dec.{eqb}
 use Rattle.panel.specs.declared.Cladding.the-variants.{One, Two}
 use Rattle.panel.specs.Boards.{charringStart}
-use Rattle.panel.specs.Worked.{g, recovers, behindA, board125}
+use Rattle.panel.specs.Worked.{g, recovers, threeBehindA, board125}
 use Rattle.section.specs.Tests.{depthPasses}
 use Rattle.limits.specs.Refusals.{panelRefusal}
 use Rattle.basic_times.specs.Rules.{gypsumProtection, gypsumInsulation, woodProtection, woodInsulation}
@@ -47,7 +47,7 @@ starred =
     -- "G: EI sum 9506."
     ∷ row (eiSum (g 3000)) 9506
     -- "Type A 12.5, coefficient 100, three lamellae 20: 5933."
-    ∷ row (eiSum behindA) 5933
+    ∷ row (eiSum threeBehindA) 5933
     ∷ []
 
 -- every row agrees
