@@ -6,10 +6,13 @@ use Rattle.section.specs.Sections.{countedFrom, total, lowest, highest, section
 use Rattle.section.specs.Tests.{carries}
 use Rattle.limits.specs.Causes.{some}
 use Rattle.limits.specs.Refusals.{panelRefusal}
+use Rattle.charring.specs.Fires.{failureOf, k2, clad, firstEnd, linesFrom, bondLines, lineEnd}
+use Rattle.charring.specs.Stages.{stretches, way, charred}
+use Rattle.charring.specs.Depths.{charAt}
 use Rattle.basic_times.specs.Rules.{basicTime}
 use Rattle.layers.specs.Layers.{protection, insulation, jointOf, positioned, withProtection, withInsulation, sumAfter, eiSum}
 use Rattle.cases.specs.Starred.{starred, agree}
 
 pub starred-agree : T (agree starred)
-unfolding starred agree largest lamellaeOf thickness countedFrom total lowest highest sectionOf carries some panelRefusal basicTime protection insulation jointOf positioned withProtection withInsulation sumAfter eiSum
+unfolding starred agree largest lamellaeOf thickness countedFrom total lowest highest sectionOf carries some panelRefusal basicTime protection insulation jointOf positioned withProtection withInsulation sumAfter eiSum failureOf k2 clad firstEnd linesFrom bondLines lineEnd stretches way charred charAt
 starred-agree = tt

@@ -1,13 +1,14 @@
 -- Document 01, "Panels worked through": "The starred are proved." One row for each number of a starred line.
-use Prim.Native.Nat.{ℕ}
+use Prim.Native.Nat.{ℕ, _*_}
 use mathlib.Core.List.{List, [], _∷_}
 use mathlib.Core.Bool.{Bool, true, false, _&&_}
 use lib.Dec.{eqb}
 use Rattle.panel.specs.declared.Cladding.the-variants.{One, Two}
 use Rattle.panel.specs.Boards.{charringStart}
-use Rattle.panel.specs.Worked.{g, recovers, threeBehindA, board125}
+use Rattle.panel.specs.Worked.{g, gFalling, recovers, oneBehindA, threeBehindA, board125}
 use Rattle.section.specs.Tests.{depthPasses}
 use Rattle.limits.specs.Refusals.{panelRefusal}
+use Rattle.charring.specs.Depths.{charAt}
 use Rattle.basic_times.specs.Rules.{gypsumProtection, gypsumInsulation, woodProtection, woodInsulation}
 use Rattle.layers.specs.Layers.{eiSum}
 
@@ -24,6 +25,10 @@ abbrev pub passing : Bool → ℕ
 passing true = 1
 passing false = 0
 
+-- a char depth of so many hundredths of a millimetre at a time n/q: half picometres, times q
+abbrev pub hundredths : ℕ → ℕ → ℕ
+hundredths mm q = 2 * q * (10000000 * mm)
+
 unfoldable pub starred : List Case
 starred =
     -- "One board 12.5: t_ch 21,000; wide gap 12,000."
@@ -31,6 +36,12 @@ starred =
     ∷ row (charringStart 1 (One (board125 65))) 12000
     -- "Two F 12.5: 49,000."
     ∷ row (charringStart 0 (Two (board125 70) (board125 70))) 49000
+    -- "Type A 9.0, β 65, one lamella 60: 14.56 mm at 22.4 min. Type A 12.5: 37.85 mm at 60 min."
+    ∷ row (charAt (oneBehindA 90) 224 10) (hundredths 1456 10)
+    ∷ row (charAt (oneBehindA 125) 60 1) (hundredths 3785 1)
+    -- "G with falling bond: 48.0 mm at 60 min, 72.0 at 90."
+    ∷ row (charAt (gFalling 3000) 60 1) (hundredths 4800 1)
+    ∷ row (charAt (gFalling 3000) 90 1) (hundredths 7200 1)
     -- "G, M 43,056: depth 0 passes; 43,057: refusal 13."
     ∷ row (passing (depthPasses (g 43056) 0)) 1
     ∷ row (panelRefusal (g 43057)) 13

@@ -1,0 +1,14 @@
+pub mod DepthBounds
+pub mod DepthLaws
+pub mod FirstRun
+pub mod JustBefore
+pub mod Lasting
+pub mod PhaseCases
+pub mod PhaseLaws
+pub mod PhaseOfDepth
+pub mod Ramps
+pub mod Rounding
+pub mod Runs
+pub mod Unused
+pub mod WayLaws
+pub mod WayRamps

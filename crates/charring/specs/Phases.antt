@@ -1,0 +1,40 @@
+-- Document 01, "Charring": "At each time the panel is in one phase: untouched, under cladding, fast up to a named end, or settled."
+use Prim.Native.Nat.{ℕ, _+_, _-_, _*_, _/_}
+use mathlib.Core.List.{List, [], _∷_}
+use mathlib.Core.Bool.{Bool, true, false, _&&_}
+use lib.Dec.{ltb, leb}
+use Rattle.panel.specs.declared.Panel.{Panel}
+use Rattle.charring.specs.declared.Phase.{Phase}
+use Rattle.charring.specs.declared.Phase.the-variants.{Untouched, UnderCladding, Fast, Settled}
+use Rattle.charring.specs.Fires.{startOf, failureOf, plainRate, clad, backFace}
+use Rattle.charring.specs.Stages.{Stretch, way, fastPart, settledPart}
+use Rattle.charring.specs.Depths.{charAt}
+
+-- on a way, after as much as x: "a boundary instant belongs to the later phase"
+unfoldable pub phaseOn : List Stretch → ℕ → ℕ → Phase
+phaseOn [] x q = Settled
+phaseOn (s ∷ ss) x q =
+    elim (ltb x (q * fastPart s)) [
+      | true ↦ Fast (s .end / 10000)
+      | false ↦
+          elim (ltb x (q * fastPart s + 2 * q * settledPart s)) [
+            | true ↦ Settled
+            | false ↦ phaseOn ss (x - q * fastPart s - 2 * q * settledPart s) q
+          ]
+    ]
+
+-- the phase at n/q minutes; "a panel charred through is settled"
+unfoldable pub phaseAt : Panel → ℕ → ℕ → Phase
+phaseAt p n q =
+    elim (leb (2 * q * backFace p) (charAt p n q)) [
+      | true ↦ Settled
+      | false ↦
+          elim (ltb (1000 * n) (q * startOf p)) [
+            | true ↦ Untouched
+            | false ↦
+                elim (ltb (1000 * n) (q * failureOf p)) [
+                  | true ↦ UnderCladding
+                  | false ↦ phaseOn (way p) (2 * plainRate p * (1000 * n - q * failureOf p)) q
+                ]
+          ]
+    ]

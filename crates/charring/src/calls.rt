@@ -1,0 +1,1 @@
+// The open calls of this crate: they ask nothing of their caller.
