@@ -1,6 +1,7 @@
 pub mod DepthBounds
 pub mod DepthLaws
 pub mod FirstRun
+pub mod GivesWay
 pub mod JustBefore
 pub mod Lasting
 pub mod PhaseCases

@@ -37,19 +37,19 @@ module _ (s : Stretch) (ss : List Stretch) (d q : ℕ) where
   unfolding phaseOfDepth inner
   deep-cons = refl
 
-  deep-fast : d < 2 * q * s .to → d < 2 * q * s .end → phaseOfDepth (s ∷ ss) d q ≡ Fast (s .end / 10000)
+  pub deep-fast : d < 2 * q * s .to → d < 2 * q * s .end → phaseOfDepth (s ∷ ss) d q ≡ Fast (s .end / 10000)
   unfolding inner
   deep-fast h k =
       deep-cons ∙ ap (λ (b : Bool). branch b inner (phaseOfDepth ss d q)) (lt-ltb d (2 * q * s .to) h)
       ∙ ap (λ (b : Bool). branch b (Fast (s .end / 10000)) Settled) (lt-ltb d (2 * q * s .end) k)
 
-  deep-settled : d < 2 * q * s .to → 2 * q * s .end ≤ d → phaseOfDepth (s ∷ ss) d q ≡ Settled
+  pub deep-settled : d < 2 * q * s .to → 2 * q * s .end ≤ d → phaseOfDepth (s ∷ ss) d q ≡ Settled
   unfolding inner
   deep-settled h k =
       deep-cons ∙ ap (λ (b : Bool). branch b inner (phaseOfDepth ss d q)) (lt-ltb d (2 * q * s .to) h)
       ∙ ap (λ (b : Bool). branch b (Fast (s .end / 10000)) Settled) (le-ltb d (2 * q * s .end) k)
 
-  deep-rest : 2 * q * s .to ≤ d → phaseOfDepth (s ∷ ss) d q ≡ phaseOfDepth ss d q
+  pub deep-rest : 2 * q * s .to ≤ d → phaseOfDepth (s ∷ ss) d q ≡ phaseOfDepth ss d q
   deep-rest h = deep-cons ∙ ap (λ (b : Bool). branch b inner (phaseOfDepth ss d q)) (le-ltb d (2 * q * s .to) h)
 
 deep-empty : (d q : ℕ) → phaseOfDepth [] d q ≡ Settled

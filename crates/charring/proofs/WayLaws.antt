@@ -78,7 +78,7 @@ exact-bond p = go (eqb (p .bond) 1)
     go true = exact-lines 0 (lamellae p) (record { count = 0; is = refl })
     go false = none
 
-exact-line-end : (line : ℕ) (lines : List ℕ) → Exact line → AllExact lines → Exact (lineEnd line lines)
+pub exact-line-end : (line : ℕ) (lines : List ℕ) → Exact line → AllExact lines → Exact (lineEnd line lines)
 unfolding lineEnd
 exact-line-end line [] h none = exact-run line h
 exact-line-end line (next ∷ lines) h (both k ks) = exact-min (line + fastRun) next (exact-run line h) k
