@@ -1,1 +1,73 @@
 // The open calls of this crate: they ask nothing of their caller.
+use crate::DepthAnswer;
+use crate::PhaseAnswer;
+use crate::TableAnswer;
+use crate::depths::micrometres_at;
+use crate::depths::tenths_at;
+use crate::phases::phase_at;
+use crate::table::fill;
+use limits::calls::panel_refusal;
+use limits::lines::line_or;
+use panel::Panel;
+ghost use mathlib.Core.Path.{_≡_};
+ghost use Rattle.charring.specs.Answers.{minuteRefusal, phaseAnswer, charAnswer, effectiveAnswer, tableAnswer, tableAfter};
+
+// Lines 3 to 13 of a panel, then line 15 of a minute.
+fn minute_refusal(p: Panel, minute: u16) -> u8
+    ensures { λ r. ⌜ r ≡ minuteRefusal p minute ⌝ }
+{
+    let n = panel_refusal(p);
+    if n != 0 {
+        return n;
+    }
+    line_or(15, 360 < minute, 0)
+}
+
+// The phase at a whole minute.
+pub fn phase(p: Panel, minute: u16) -> PhaseAnswer
+    ensures { λ r. ⌜ r ≡ phaseAnswer p minute ⌝ }
+{
+    let n = minute_refusal(p, minute);
+    if n != 0 {
+        return PhaseAnswer::Refused(n);
+    }
+    PhaseAnswer::At(phase_at(p, minute as u64))
+}
+
+// The char depth at a whole minute, in micrometres, rounded up.
+pub fn char_depth(p: Panel, minute: u16) -> DepthAnswer
+    ensures { λ r. ⌜ r ≡ charAnswer p minute ⌝ }
+{
+    let n = minute_refusal(p, minute);
+    if n != 0 {
+        return DepthAnswer::Refused(n);
+    }
+    DepthAnswer::Depth(micrometres_at(p, minute as u64))
+}
+
+// The effective depth at a whole minute, in tenths of mm, rounded up.
+pub fn effective_depth(p: Panel, minute: u16) -> DepthAnswer
+    ensures { λ r. ⌜ r ≡ effectiveAnswer p minute ⌝ }
+{
+    let n = minute_refusal(p, minute);
+    if n != 0 {
+        return DepthAnswer::Refused(n);
+    }
+    DepthAnswer::Depth(tenths_at(p, minute as u64))
+}
+
+// The char depths of minutes 0 to 360 in micrometres, rounded up, into the lent space.
+pub fn depth_table(p: Panel, out: &mut [u32]) -> TableAnswer
+    ensures { λ r. ⌜ r ≡ tableAnswer p (now (out .entry)) ⌝ }
+    ensures { λ r. ⌜ now (out .exit) ≡ tableAfter p (now (out .entry)) ⌝ }
+{
+    let n = panel_refusal(p);
+    if n != 0 {
+        return TableAnswer::Refused(n);
+    }
+    if out.len() < 361 {
+        return TableAnswer::Refused(14);
+    }
+    fill(p, out);
+    TableAnswer::Filled
+}

@@ -1,5 +1,11 @@
 // Charring behind cladding and bond lines (document 01, "Charring"): char depth, phase and effective depth at a time.
 pub mod calls;
+mod depths;
+mod fires;
+mod parts;
+mod phases;
+mod table;
+mod walk;
 
 // The phase of the char. A fast phase carries the char depth where it ends, in hundred-thousandths of mm.
 pub enum Phase {
@@ -25,4 +31,26 @@ pub enum DepthAnswer {
 pub enum TableAnswer {
     Filled,
     Refused(u8),
+}
+
+// What is the same at every minute: t_ch and t_f, the rates under cladding and after it, the depth at t_f, where the first run
+// ends, the back face, and when k0 is 1. Times in thousandths of a minute, lengths in picometres.
+pub(crate) struct Fire {
+    pub start: u64,
+    pub failure: u64,
+    pub slow: u64,
+    pub plain: u64,
+    pub depth: u64,
+    pub end: u64,
+    pub back: u64,
+    pub full: u64,
+}
+
+// A place on the way through the panel: the depth, where its run ends, what is left of the time in twice what β alone adds, and
+// what has charred on the way, in half picometres.
+pub(crate) struct Place {
+    pub from: u64,
+    pub end: u64,
+    pub left: u64,
+    pub gained: u64,
 }

@@ -1,0 +1,85 @@
+-- What the open calls answer where a line turns the panel or the call back, and where none does.
+use Prim.Native.Nat.{ℕ, suc, _+_, _≤_, _<_}
+use mathlib.Core.Path.{_≡_, sym, ap, _∙_}
+use mathlib.Core.Bool.{Bool}
+use mathlib.Core.List.{List, [], _∷_, _++_, append-assoc}
+use native.Mathlib.Numerals.{add-one}
+use borrow.Author.Tests.{ltb-false, lt-ltb, le-ltb}
+use lib.Dec.{ltb}
+use lib.ListN.{length, drop, getD, set}
+use lib.Seq.{drop-cons, set-append-seam}
+use Rattle.numbers.specs.Choice.{pick}
+use Rattle.numbers.specs.Firsts.{firsts}
+use Rattle.numbers.proofs.FirstValues.{length-firsts}
+use Rattle.panel.specs.declared.Panel.{Panel}
+use Rattle.limits.specs.Lines.{line}
+use Rattle.limits.specs.Refusals.{panelLines, panelRefusal}
+use Rattle.limits.proofs.Accepted.{none-fits}
+use Rattle.limits.proofs.FirstLine.{first-none, none-first, none-left, said, unsaid, refused, answered}
+use Rattle.charring.specs.declared.TableAnswer.the-variants.{Filled, Refused}
+use Rattle.charring.specs.Answers.{minuteRefusal, depthTable, tableRefusal, tableAnswer, tableAfter}
+
+-- A minute
+
+pub minute-refused : (p : Panel) (minute n : ℕ) → n ≡ panelRefusal p → (n ≡ 0 → ⊥) → n ≡ minuteRefusal p minute
+unfolding minuteRefusal panelRefusal
+minute-refused p minute n e ne = said (panelLines p) (pick (ltb 360 minute) 15 0) n e ne
+
+pub minute-open : (p : Panel) (minute n m : ℕ) → n ≡ panelRefusal p → n ≡ 0 → m ≡ pick (ltb 360 minute) 15 0 → m ≡ minuteRefusal p minute
+unfolding minuteRefusal panelRefusal
+minute-open p minute n m e z e′ = unsaid (panelLines p) tt (pick (ltb 360 minute) 15 0) n m e z e′
+
+-- no refusal: the panel is accepted and the minute is asked for
+pub minute-taken : (p : Panel) (minute : ℕ) → minuteRefusal p minute ≡ 0 → (panelRefusal p ≡ 0) × (minute ≤ 360)
+unfolding minuteRefusal panelRefusal
+minute-taken p minute e =
+    let late = line 15 (ltb 360 minute) ∷ [] in
+    let h = first-none (panelLines p ++ late) tt e in (
+      none-first (panelLines p) (none-left (panelLines p) late h) 0,
+      ltb-false 360 minute (h .1 .1 .1 .1 .1 .1 .1 .1 .1 .1 .0),
+    )
+
+-- The table
+
+-- one more depth
+pub fill-more :
+    (f : ℕ → ℕ) (l : List ℕ) (i : ℕ) (out : List ℕ) → i < length l → out ≡ firsts f i ++ drop i l
+    → set out i (f i) ≡ firsts f (i + 1) ++ drop (i + 1) l
+unfolding firsts
+fill-more f l i out h e =
+    rw (add-one i)
+    (ap (λ (o : List ℕ). set o i (f i)) (e ∙ ap (λ (r : List ℕ). firsts f i ++ r) (drop-cons l i 0 h))
+    ∙ ap (λ (k : ℕ). set (firsts f i ++ (getD l i 0 ∷ drop (suc i) l)) k (f i)) (sym (length-firsts f i))
+    ∙ set-append-seam (firsts f i) (getD l i 0) (drop (suc i) l) (f i)
+    ∙ sym (append-assoc (firsts f i) (f i ∷ []) (drop (suc i) l)))
+
+pub table-refused : (p : Panel) (space : List ℕ) (n : ℕ) → n ≡ panelRefusal p → (n ≡ 0 → ⊥) → n ≡ tableRefusal p space
+unfolding tableRefusal panelRefusal
+table-refused p space n e ne = said (panelLines p) (pick (ltb (length space) 361) 14 0) n e ne
+
+table-open : (p : Panel) (space : List ℕ) → panelRefusal p ≡ 0 → tableRefusal p space ≡ pick (ltb (length space) 361) 14 0
+unfolding tableRefusal
+table-open p space e = none-first (panelLines p) (none-fits p e) (pick (ltb (length space) 361) 14 0)
+
+pub table-short : (p : Panel) (space : List ℕ) → panelRefusal p ≡ 0 → length space < 361 → 14 ≡ tableRefusal p space
+table-short p space e h = sym (table-open p space e ∙ ap (λ (t : Bool). pick t 14 0) (lt-ltb (length space) 361 h))
+
+pub table-turned :
+    (p : Panel) (space : List ℕ) (n : ℕ) → n ≡ tableRefusal p space → (n ≡ 0 → ⊥)
+    → (Refused n ≡ tableAnswer p space) × (space ≡ tableAfter p space)
+unfolding tableAnswer tableAfter
+table-turned p space n e ne =
+    let ne′ : tableRefusal p space ≡ 0 → ⊥ = λ z. ne (e ∙ z) in (
+      ap Refused e ∙ refused (tableRefusal p space) Refused Filled ne′,
+      refused (tableRefusal p space) (λ (k : ℕ). space) (depthTable p ++ drop 361 space) ne′,
+    )
+
+pub table-filled :
+    (p : Panel) (space after : List ℕ) → panelRefusal p ≡ 0 → 361 ≤ length space → after ≡ depthTable p ++ drop 361 space
+    → (Filled ≡ tableAnswer p space) × (after ≡ tableAfter p space)
+unfolding tableAnswer tableAfter
+table-filled p space after e h stored =
+    let z : tableRefusal p space ≡ 0 = table-open p space e ∙ ap (λ (t : Bool). pick t 14 0) (le-ltb (length space) 361 h) in (
+      answered (tableRefusal p space) Refused Filled z,
+      stored ∙ answered (tableRefusal p space) (λ (k : ℕ). space) (depthTable p ++ drop 361 space) z,
+    )

@@ -1,0 +1,181 @@
+-- The way through the panel, line by line: what will come out stays the same.
+use Prim.Native.Nat.{ℕ, suc, _+_, _-_, _*_, _<_, _≤_, min, max}
+use mathlib.Core.Path.{_≡_, refl, sym, ap, _∙_}
+use mathlib.Core.Bool.{Bool, true, false}
+use mathlib.Core.List.{List, [], _∷_}
+use native.Mathlib.Omega.{arith}
+use native.Mathlib.Nat.{add-assoc, one-mul}
+use native.Mathlib.Numerals.{add-one}
+use borrow.Author.Tests.{le-ltb, leb-true, leb-false, lt-ltb}
+use lib.ListN.{length, drop, getD}
+use lib.Seq.{drop-cons, drop-length}
+use lib.Dec.{eqb, leb}
+use Rattle.numbers.proofs.FirstValues.{getD-firsts}
+use Rattle.panel.specs.declared.Panel.{Panel}
+use Rattle.panel.specs.Lamellae.{Lamella, lamella, lamellae, lamellaeOf, thickness}
+use Rattle.panel.proofs.Used.{length-lamellaeOf, thickness-more, thickness-prefix}
+use Rattle.charring.specs.declared.Fire.{Fire}
+use Rattle.charring.specs.declared.Place.{Place}
+use Rattle.charring.specs.Fires.{tenth, fastRun, backFace, linesFrom, bondLines, lineEnd}
+use Rattle.charring.specs.Stages.{Stretch, stretches, way, charred, fastPart, settledPart}
+use Rattle.charring.specs.Fits.{FireFits, FireOf, FireBounds, PlaceBounds, Crossed, Passed, stretchTo, gain}
+
+-- the lines that matter, of lamellae that begin at `top`
+abbrev pub linesIf : Bool → ℕ → List Lamella → List ℕ
+linesIf true top ls = linesFrom top ls
+linesIf false top ls = []
+
+-- what comes out of a place, with the lines still to come
+abbrev pub comes : Place → List ℕ → ℕ → ℕ
+comes s lines back = s .gained + charred (stretches (s .from) (s .end) lines back) (s .left) 1
+
+-- a line that is still to come, and a line passed before t_f
+pub to-line : (from end line : ℕ) (lines : List ℕ) (back : ℕ) → from ≤ line
+    → stretches from end (line ∷ lines) back ≡ record { from = from; end = end; to = line } ∷ stretches line (lineEnd line lines) lines back
+unfolding stretches
+to-line from end line lines back h = rw (stretches, le-ltb line from h)
+
+pub past-line : (from end line : ℕ) (lines : List ℕ) (back : ℕ) → line < from → stretches from end (line ∷ lines) back ≡ stretches from end lines back
+unfolding stretches
+past-line from end line lines back h = rw (stretches, lt-ltb line from h)
+
+-- the next line ends a run anyhow, so that a run may be taken to end 25 mm past its line
+same-end : (line : ℕ) (l : Lamella) (ls : List Lamella) (back x : ℕ)
+    → charred (stretches line (lineEnd line (linesFrom line (l ∷ ls))) (linesFrom line (l ∷ ls)) back) x 1
+    ≡ charred (stretches line (line + fastRun) (linesFrom line (l ∷ ls)) back) x 1
+unfolding linesFrom lineEnd stretches charred
+same-end line l [] back x = refl
+same-end line l (m ∷ ls) back x =
+    let next = line + tenth * l .thickness in
+    let lines = linesFrom next (m ∷ ls) in
+    let below : line ≤ next = omega arith in
+    ap (λ (ss : List Stretch). charred ss x 1) (to-line line (min (line + fastRun) next) next lines back below)
+    ∙ rw (fast-same line (line + fastRun) next, settled-same line (line + fastRun) next)
+    (ap (λ (ss : List Stretch). charred ss x 1) (sym (to-line line (line + fastRun) next lines back below)))
+  where
+    fast-same : (line end next : ℕ) → min (min end next) next - line ≡ min end next - line
+    fast-same line end next = omega arith
+
+    settled-same : (line end next : ℕ) → next - max line (min end next) ≡ next - max line end
+    settled-same line end next = omega arith
+
+-- a stretch to a line
+cross-keeps : (s r : Place) (line : ℕ) (l : Lamella) (ls : List Lamella) (back : ℕ) → Crossed s line r → s .from ≤ line
+    → comes r (linesFrom line (l ∷ ls)) back ≡ comes s (line ∷ linesFrom line (l ∷ ls)) back
+unfolding charred
+cross-keeps s r line l ls back c h =
+    let fast = fastPart (stretchTo s line) in
+    let settled = settledPart (stretchTo s line) in
+    let lines = linesFrom line (l ∷ ls) in
+    rw (to-line (s .from) (s .end) line lines back h, c .from, c .end, c .left, c .gained)
+    (simp one-mul (rw (same-end line l ls back (s .left - fast - 2 * settled)) (add-assoc (s .gained) (gain (stretchTo s line) (s .left))
+    (charred (stretches line (line + fastRun) lines back) (s .left - fast - 2 * settled) 1))))
+
+-- the last stretch
+cross-last : (s r : Place) (back : ℕ) → Crossed s back r → r .gained ≡ comes s [] back
+unfolding stretches charred
+cross-last s r back c = rw (c .gained) (simp one-mul (ap (λ (x : ℕ). s .gained + x) (zero-last (gain (stretchTo s back) (s .left)))))
+  where
+    zero-last : (x : ℕ) → x ≡ x + 0
+    zero-last x = omega arith
+
+-- a line that is passed
+pass-keeps : (falls : Bool) (s r : Place) (top line : ℕ) (l m : Lamella) (ls : List Lamella) (back : ℕ) → line ≡ top + tenth * l .thickness
+    → Passed falls s line r → comes r (linesIf falls line (m ∷ ls)) back ≡ comes s (linesIf falls top (l ∷ m ∷ ls)) back
+unfolding linesFrom
+pass-keeps false s r top line l m ls back e h = rw (h .kept refl)
+pass-keeps true s r top line l m ls back e h = rw (← e) (go (leb (s .from) line) refl)
+  where
+    go : (b : Bool) → leb (s .from) line ≡ b
+        → comes r (linesFrom line (m ∷ ls)) back ≡ comes s (line ∷ linesFrom line (m ∷ ls)) back
+    go true t = cross-keeps s r line m ls back (h .crossed t) (leb-true (s .from) line t)
+    go false t = rw (h .kept t, past-line (s .from) (s .end) line (linesFrom line (m ∷ ls)) back (leb-false (s .from) line t))
+
+-- The walk over a panel's arrays
+
+-- the lamellae from lamella i on
+pub rest-at : (gs ts : List ℕ) (n i : ℕ) → i < n
+    → drop i (lamellaeOf gs ts n) ≡ lamella (getD gs i 0) (getD ts i 0) ∷ drop (suc i) (lamellaeOf gs ts n)
+unfolding lamellaeOf
+rest-at gs ts n i h =
+    drop-cons (lamellaeOf gs ts n) i (lamella 0 0) (omega (arith, length-lamellaeOf gs ts n))
+    ∙ ap (λ (l : Lamella). l ∷ drop (suc i) (lamellaeOf gs ts n)) (getD-firsts (λ (j : ℕ). lamella (getD gs j 0) (getD ts j 0)) n i (lamella 0 0) h)
+
+pub bond-lines : (b : Bool) (ls : List Lamella) → elim b [ true ↦ linesFrom 0 ls | false ↦ [] ] ≡ linesIf b 0 ls
+bond-lines true ls = refl
+bond-lines false ls = refl
+
+-- after i lines, with the last of them at `line`
+pub record Walked (p : Panel) (x i line : ℕ) (s : Place) : Type 0 where
+  pub ends : line ≡ tenth * thickness (lamellaeOf (p .directions) (p .thicknesses) i)
+  pub bounds : PlaceBounds s
+  pub same : comes s (linesIf (eqb (p .bond) 1) line (drop i (lamellae p))) (backFace p) ≡ charred (way p) x 1
+
+pub walk-start : (p : Panel) (f : Fire) (x : ℕ) → FireOf p f → FireBounds f → x ≤ 720000000000
+    → Walked p x 0 0 (record { from = f .depth; end = f .end; left = x; gained = 0 })
+unfolding way bondLines lamellaeOf thickness
+walk-start p f x o b h =
+    record {
+      ends = refl;
+      bounds = record { from = omega (arith, b .depth); end = omega (arith, b .end); gained = omega arith };
+      same = rw (o .depth, o .end, bond-lines (eqb (p .bond) 1) (lamellae p)) (zero-first _);
+    }
+  where
+    zero-first : (y : ℕ) → 0 + y ≡ y
+    zero-first y = omega arith
+
+-- the next line lies in the panel
+pub walk-fits : (p : Panel) (x i line : ℕ) (s : Place) → FireFits p → Walked p x i line s → i < p .count
+    → line + 100000000 * getD (p .thicknesses) i 0 ≤ 400000000000
+walk-fits p x i line s h w k =
+    omega (
+      arith,
+      w .ends,
+      h .thick,
+      thickness-more (p .directions) (p .thicknesses) i,
+      thickness-prefix (p .directions) (p .thicknesses) (suc i) (p .count) (omega arith),
+    )
+
+pub walk-more : (p : Panel) (x i line next : ℕ) (s r : Place) → Walked p x i line s → i + 1 < p .count
+    → next ≡ line + 100000000 * getD (p .thicknesses) i 0 → Passed (eqb (p .bond) 1) s next r → Walked p x (i + 1) next r
+walk-more p x i line next s r w k e h =
+    let gs = p .directions in
+    let ts = p .thicknesses in
+    let n = p .count in
+    let l = lamella (getD gs i 0) (getD ts i 0) in
+    let m = lamella (getD gs (suc i) 0) (getD ts (suc i) 0) in
+    let ls = drop (suc (suc i)) (lamellae p) in
+    let two : drop (suc i) (lamellae p) ≡ m ∷ ls = rest-at gs ts n (suc i) (omega arith) in
+    let one : drop i (lamellae p) ≡ l ∷ m ∷ ls = rest-at gs ts n i (omega arith) ∙ ap (λ (xs : List Lamella). l ∷ xs) two in
+    rw (add-one i)
+    record {
+      ends = omega (arith, w .ends, thickness-more gs ts i);
+      bounds = h .bounds;
+      same =
+          ap (λ (xs : List Lamella). comes r (linesIf (eqb (p .bond) 1) next xs) (backFace p)) two
+          ∙ pass-keeps (eqb (p .bond) 1) s r line next l m ls (backFace p) e h
+          ∙ ap (λ (xs : List Lamella). comes s (linesIf (eqb (p .bond) 1) line xs) (backFace p)) (sym one)
+          ∙ w .same;
+    }
+
+-- behind the last line there is only the back face
+pub last-lines : (falls : Bool) (top : ℕ) (l : Lamella) → linesIf falls top (l ∷ []) ≡ []
+unfolding linesFrom
+last-lines true top l = refl
+last-lines false top l = refl
+
+pub walk-end : (p : Panel) (x i line back : ℕ) (s r : Place) → Walked p x i line s → i + 1 ≡ p .count → back ≡ backFace p
+    → Crossed s back r → r .gained ≡ charred (way p) x 1
+walk-end p x i line back s r w k e h =
+    let gs = p .directions in
+    let ts = p .thicknesses in
+    let n = p .count in
+    let l = lamella (getD gs i 0) (getD ts i 0) in
+    let n-is : suc i ≡ length (lamellae p) = omega (arith, length-lamellaeOf gs ts n) in
+    let none : drop (suc i) (lamellae p) ≡ [] = ap (λ (j : ℕ). drop j (lamellae p)) n-is ∙ drop-length (lamellae p) in
+    let one : drop i (lamellae p) ≡ l ∷ [] = rest-at gs ts n i (omega arith) ∙ ap (λ (xs : List Lamella). l ∷ xs) none in
+    let lines : linesIf (eqb (p .bond) 1) line (drop i (lamellae p)) ≡ [] = ap (linesIf (eqb (p .bond) 1) line) one ∙ last-lines (eqb (p .bond) 1) line l in
+    cross-last s r back h
+    ∙ ap (comes s []) e
+    ∙ ap (λ (xs : List ℕ). comes s xs (backFace p)) (sym lines)
+    ∙ w .same

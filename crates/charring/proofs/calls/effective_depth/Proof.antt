@@ -1,0 +1,36 @@
+-- `charring::calls::effective_depth` meets its contract: the depth of a panel and a minute that no line turns back. Assumes nothing.
+use Rattle.charring.proofs.Accepted.{fire-fits}
+use Rattle.charring.proofs.Replies.{minute-taken}
+use Rattle.charring.specs.Answers.{minuteRefusal, effectiveAnswer}
+use Rattle.charring.specs.Depths.{tenthsAt}
+use Rattle.charring.specs.declared.DepthAnswer.the-variants.{Depth, Refused}
+use Rattle.limits.proofs.FirstLine.{refused, answered}
+use borrow.Author.Needs.{needs}
+use mathlib.Core.Path.{sym, ap, _∙_}
+use Rattle.charring.proofs.calls.effective_depth.Statement.{statement}
+use Rattle.charring.proofs.calls.effective_depth.Tie as tie
+
+returns : tie.Need-returns
+unfolding effectiveAnswer
+returns c =
+    let a = c .before .before .args in
+    let e = c .before .minute-refusal .ensures in
+    ap Refused e ∙ refused (minuteRefusal (a .p) (a .minute)) Refused (Depth (tenthsAt (a .p) (a .minute) 1)) (λ z. c .if1 .taken (e ∙ z))
+
+tenths-at-requires : tie.Need-tenths-at-requires
+tenths-at-requires c κs =
+    let a = c .before .before .args in
+    let h = minute-taken (a .p) (a .minute) (sym (c .before .minute-refusal .ensures) ∙ c .if1 .left) in
+    (fire-fits (a .p) (h .0), h .1)
+
+returns-2 : tie.Need-returns-2
+unfolding effectiveAnswer
+returns-2 c =
+    let r = c .before .before in
+    let a = r .before .args in
+    ap Depth (c .tenths-at .ensures)
+    ∙ answered (minuteRefusal (a .p) (a .minute)) Refused (Depth (tenthsAt (a .p) (a .minute) 1)) (sym (r .minute-refusal .ensures) ∙ c .before .if1 .left)
+
+pub effective-depth-spec : {M : Type 1} → statement M
+effective-depth-spec =
+    tie.close (tie.spec (λ c κs. search needs) returns tenths-at-requires returns-2)

@@ -1,0 +1,25 @@
+-- `charring::fires::first_end` meets its contract: the choices are those of the definition. Assumes nothing.
+use Prim.Native.Nat.{ℕ, _*_, min}
+use Rattle.charring.specs.Fires.{fastRun}
+use Rattle.numbers.specs.Choice.{pick}
+use borrow.Author.Needs.{needs}
+use lib.Dec.{eqb}
+use mathlib.Core.Path.{ap, _∙_, _≡_}
+use native.Mathlib.Omega.{arith}
+use Rattle.charring.proofs.fires.first_end.Statement.{statement}
+use Rattle.charring.proofs.fires.first_end.Tie as tie
+
+returns : tie.Need-returns
+returns c =
+    let c2 = c .before .before in
+    let a = c2 .before .before .args in
+    let run : 2 * c2 .before .run-of .result ≡ 2 * a .plain * a .failure = omega (arith, c2 .before .run-of .ensures .0) in
+    c .choose-wide2 .ensures
+    ∙ ap (λ (k : ℕ). pick (a .behind) k 0)
+    (c .before .choose-wide .ensures
+    ∙ ap (λ (k : ℕ). pick (eqb (a .start) (a .failure)) k fastRun) (c2 .smaller .ensures .0 ∙ ap (λ (k : ℕ). min k fastRun) run))
+
+pub first-end-spec : {M : Type 1} → statement M
+first-end-spec =
+    tie.close
+    (tie.spec (λ c κs. search needs) (λ c. search needs) (λ c κs. search needs) (λ c κs. search needs) (λ c κs. search needs) returns)

@@ -1,0 +1,121 @@
+// What is the same at every minute, worked out once for a panel.
+use crate::Fire;
+use crate::parts::choose_wide;
+use crate::parts::smaller;
+use numbers::natural::beyond;
+use numbers::natural::larger;
+use numbers::natural::wide;
+use panel::Board;
+use panel::Cladding;
+use panel::Panel;
+use panel::boards::charring_start;
+use panel::boards::type_f;
+ghost use mathlib.Core.Path.{_≡_};
+ghost use mathlib.Core.List.{List};
+ghost use Prim.Native.Nat.{ℕ, _-_, _*_, _≤_, min};
+ghost use lib.Dec.{eqb};
+ghost use Rattle.numbers.specs.Choice.{pick};
+ghost use Rattle.panel.specs.Lamellae.{lamellaeOf, thickness};
+ghost use Rattle.charring.specs.Fires.{fastRun, startOf, failureOf, k2, clad};
+ghost use Rattle.charring.specs.Fits.{FireFits, FireOf, FireBounds};
+
+fn k2_behind(b: Board) -> u64
+    ensures { λ r. ⌜ (r ≡ 10000 - 18 * b .thickness) × (r ≤ 10000) ⌝ }
+{
+    beyond(10000, 18 * wide(b.thickness))
+}
+
+fn k2_of(c: Cladding) -> u64
+    ensures { λ r. ⌜ r ≡ k2 c ⌝ }
+{
+    match c {
+        Cladding::Unclad => 0,
+        Cladding::One(b) => k2_behind(b),
+        Cladding::Two(_, inner) => k2_behind(inner),
+    }
+}
+
+fn is_clad(c: Cladding) -> bool
+    ensures { λ r. ⌜ r ≡ clad c ⌝ }
+{
+    match c {
+        Cladding::Unclad => false,
+        Cladding::One(_) => true,
+        Cladding::Two(_, _) => true,
+    }
+}
+
+fn start_of(p: Panel) -> u64
+    ensures { λ r. ⌜ r ≡ startOf p ⌝ }
+{
+    let c = p.cladding;
+    charring_start(p.gap, c) as u64
+}
+
+fn failure_of(p: Panel, start: u64) -> u64
+    requires { ⌜ start ≡ startOf p ⌝ }
+    ensures { λ r. ⌜ r ≡ failureOf p ⌝ }
+{
+    let c = p.cladding;
+    choose_wide(type_f(c), p.failure_time as u64, start)
+}
+
+fn slow_rate(factor: u64, rate: u64) -> u64
+    requires { ⌜ (factor ≤ 10000) × (rate ≤ 100) ⌝ }
+    ensures { λ r. ⌜ (r ≡ factor * rate) × (r ≤ 1000000) ⌝ }
+{
+    factor * rate
+}
+
+// How far a rate of at most 1 mm a minute comes in at most six hours.
+fn run_of(rate: u64, time: u64) -> u64
+    requires { ⌜ (rate ≤ 1000000) × (time ≤ 360000) ⌝ }
+    ensures { λ r. ⌜ (r ≡ rate * time) × (r ≤ 360000000000) ⌝ }
+{
+    rate * time
+}
+
+fn first_end(behind: bool, start: u64, failure: u64, plain: u64) -> u64
+    requires { ⌜ (plain ≤ 1000000) × (failure ≤ 360000) ⌝ }
+    ensures { λ r. ⌜ r ≡ pick behind (pick (eqb start failure) (min (2 * plain * failure) fastRun) fastRun) 0 ⌝ }
+{
+    let early = smaller(2 * run_of(plain, failure), 25000000000);
+    choose_wide(behind, choose_wide(start == failure, early, 25000000000), 0)
+}
+
+// The thickness of the first lamellae, whatever their directions. No open call: the count must be at most 9.
+fn total_thickness(thicknesses: [u16; 9], count: usize) -> u64
+    requires { ⌜ count ≤ 9 ⌝ }
+    ensures { λ r. ⌜ ((gs : List ℕ) → r ≡ thickness (lamellaeOf gs thicknesses count)) ⌝ }
+{
+    let mut sum: u64 = 0;
+    let mut i = 0;
+    while i < count {
+        sum += wide(thicknesses[i]);
+        i += 1;
+    }
+    sum
+}
+
+// No open call: the limits of lines 3, 4, 8, 9, 10 and 11 must hold.
+pub(crate) fn fire_of(p: Panel) -> Fire
+    requires { ⌜ FireFits p ⌝ }
+    ensures { λ r. ⌜ FireOf p r × FireBounds r ⌝ }
+{
+    let c = p.cladding;
+    let thicknesses = p.thicknesses;
+    let start = start_of(p);
+    let failure = failure_of(p, start);
+    let rate = p.rate as u64;
+    let slow = slow_rate(k2_of(c), rate);
+    Fire {
+        start: start,
+        failure: failure,
+        slow: slow,
+        plain: 10000 * rate,
+        depth: run_of(slow, beyond(failure, start)),
+        end: first_end(is_clad(c), start, failure, 10000 * rate),
+        back: 100000000 * total_thickness(thicknesses, p.count),
+        full: larger(20000, start),
+    }
+}

@@ -1,0 +1,90 @@
+// The phase at a whole minute. No open calls: the limits must hold.
+use crate::Fire;
+use crate::Phase;
+use crate::depths::char_of;
+use crate::depths::twice_run;
+use crate::fires::fire_of;
+use crate::parts::smaller;
+use crate::walk::fast_part;
+use crate::walk::settled_part;
+use numbers::natural::beyond;
+use numbers::natural::wide;
+use panel::Panel;
+ghost use mathlib.Core.Path.{_≡_};
+ghost use Prim.Native.Nat.{_+_, _*_, _≤_, _<_};
+ghost use lib.Dec.{ltb};
+ghost use Rattle.charring.specs.Stages.{way};
+ghost use Rattle.charring.specs.Phases.{phaseOn, phaseAt};
+ghost use Rattle.charring.specs.Fits.{FireFits, FireOf, FireBounds, LineEnd, phaseIn};
+
+fn line_end(line: u64, thicknesses: [u16; 9], at: usize, count: usize) -> u64
+    requires { ⌜ (line ≤ 400000000000) × ((at < 9) × (count ≤ 9)) ⌝ }
+    ensures { λ r. ⌜ LineEnd line thicknesses at count r ⌝ }
+{
+    let past = line + 25000000000;
+    if at + 1 < count {
+        smaller(past, line + 100000000 * wide(thicknesses[at]))
+    } else {
+        past
+    }
+}
+
+fn phase_in(left: u64, fast: u64, end: u64) -> Phase
+    requires { ⌜ end ≤ 425000000000 ⌝ }
+    ensures { λ r. ⌜ r ≡ phaseIn (ltb left fast) end ⌝ }
+{
+    if left < fast {
+        Phase::Fast((end / 10000) as u32)
+    } else {
+        Phase::Settled
+    }
+}
+
+// On the way from t_f on, after as much time as x says.
+fn phase_on(p: Panel, f: Fire, x: u64) -> Phase
+    requires { ⌜ FireFits p ⌝ }
+    requires { ⌜ FireOf p f × FireBounds f ⌝ }
+    requires { ⌜ x ≤ 720000000000 ⌝ }
+    ensures { λ r. ⌜ r ≡ phaseOn (way p) x 1 ⌝ }
+{
+    let thicknesses = p.thicknesses;
+    let mut from = f.depth;
+    let mut end = f.end;
+    let mut left = x;
+    let mut line: u64 = 0;
+    let mut i = 0;
+    while i + 1 < p.count {
+        line += 100000000 * wide(thicknesses[i]);
+        i += 1;
+        if (p.bond == 1) & (from <= line) {
+            let fast = fast_part(from, end, line);
+            let both = fast + 2 * settled_part(from, end, line);
+            if left < both {
+                return phase_in(left, fast, end);
+            }
+            left -= both;
+            from = line;
+            end = line_end(line, thicknesses, i, p.count);
+        }
+    }
+    phase_in(left, fast_part(from, end, f.back), end)
+}
+
+pub(crate) fn phase_at(p: Panel, minute: u64) -> Phase
+    requires { ⌜ FireFits p ⌝ }
+    requires { ⌜ minute ≤ 360 ⌝ }
+    ensures { λ r. ⌜ r ≡ phaseAt p minute 1 ⌝ }
+{
+    let f = fire_of(p);
+    let time = 1000 * minute;
+    if 2 * f.back <= char_of(p, f, time) {
+        return Phase::Settled;
+    }
+    if time < f.start {
+        return Phase::Untouched;
+    }
+    if time < f.failure {
+        return Phase::UnderCladding;
+    }
+    phase_on(p, f, twice_run(f.plain, beyond(time, f.failure)))
+}

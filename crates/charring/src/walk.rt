@@ -1,0 +1,85 @@
+// The way through the panel from t_f on, from bond line to bond line.
+use crate::Fire;
+use crate::Place;
+use crate::parts::smaller;
+use numbers::natural::beyond;
+use numbers::natural::larger;
+use numbers::natural::wide;
+use panel::Panel;
+ghost use mathlib.Core.Path.{_≡_};
+ghost use Prim.Native.Nat.{_+_, _-_, _*_, _≤_, min, max};
+ghost use Rattle.charring.specs.Stages.{way, charred};
+ghost use Rattle.charring.specs.Fits.{FireFits, FireOf, FireBounds, PlaceBounds, Crossed, Passed};
+
+pub(crate) fn fast_part(from: u64, end: u64, to: u64) -> u64
+    ensures { λ r. ⌜ (r ≡ min end to - from) × (r ≤ to) ⌝ }
+{
+    beyond(smaller(end, to), from)
+}
+
+pub(crate) fn settled_part(from: u64, end: u64, to: u64) -> u64
+    ensures { λ r. ⌜ (r ≡ to - max from end) × (r ≤ to) ⌝ }
+{
+    beyond(to, larger(from, end))
+}
+
+fn gain_on(left: u64, fast: u64, settled: u64) -> u64
+    requires { ⌜ (left ≤ 720000000000) × (settled ≤ 400000000000) ⌝ }
+    ensures { λ r. ⌜ (r ≡ 2 * min left fast + min (left - fast) (2 * settled)) × (r + 2 * (left - fast - 2 * settled) ≤ 2 * left) ⌝ }
+{
+    2 * smaller(left, fast) + smaller(beyond(left, fast), 2 * settled)
+}
+
+// To the end of a stretch.
+fn cross(s: Place, to: u64) -> Place
+    requires { ⌜ PlaceBounds s ⌝ }
+    requires { ⌜ to ≤ 400000000000 ⌝ }
+    ensures { λ r. ⌜ Crossed s to r ⌝ }
+{
+    let fast = fast_part(s.from, s.end, to);
+    let settled = settled_part(s.from, s.end, to);
+    Place {
+        from: to,
+        end: to + 25000000000,
+        left: beyond(beyond(s.left, fast), 2 * settled),
+        gained: s.gained + gain_on(s.left, fast, settled),
+    }
+}
+
+// Past a bond line.
+fn pass(s: Place, line: u64, falls: bool) -> Place
+    requires { ⌜ PlaceBounds s ⌝ }
+    requires { ⌜ line ≤ 400000000000 ⌝ }
+    ensures { λ r. ⌜ Passed falls s line r ⌝ }
+{
+    if falls & (s.from <= line) {
+        cross(s, line)
+    } else {
+        s
+    }
+}
+
+// From t_f on, by as much time as x says. No open call: the limits must hold.
+pub(crate) fn walk(p: Panel, f: Fire, x: u64) -> u64
+    requires { ⌜ FireFits p ⌝ }
+    requires { ⌜ FireOf p f × FireBounds f ⌝ }
+    requires { ⌜ x ≤ 720000000000 ⌝ }
+    ensures { λ r. ⌜ (r ≡ charred (way p) x 1) × (r ≤ 1440000000000) ⌝ }
+{
+    let thicknesses = p.thicknesses;
+    let mut s = Place {
+        from: f.depth,
+        end: f.end,
+        left: x,
+        gained: 0,
+    };
+    let mut line: u64 = 0;
+    let mut i = 0;
+    while i + 1 < p.count {
+        line += 100000000 * wide(thicknesses[i]);
+        s = pass(s, line, p.bond == 1);
+        i += 1;
+    }
+    let r = cross(s, f.back);
+    r.gained
+}
