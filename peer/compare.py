@@ -23,6 +23,7 @@ import random_records
 
 ROOM = 65_000  # bytes of one input
 GROUP = 300    # cases of one input
+TABLES = 4     # depth tables of one input: each is many steps
 
 
 def random_space(rng, record):
@@ -66,6 +67,24 @@ def random_minute(rng):
     return rng.choice([max(0, near), rng.randint(0, 360), rng.choice([361, 65_535])])
 
 
+def random_fire(rng, record):
+    """The record, or most of the time one of a panel that chars fast, or that meets a bond line as its boards fail."""
+    way = rng.randrange(4)
+    if way == 0:
+        return record
+    if way == 1:
+        return peer.encode(random_records.met_at_failure(rng))
+    return peer.encode(random_records.soon_failing(rng, random_records.random_panel(rng)))
+
+
+def random_fire_minute(rng, record):
+    """Beside the start of a stage, or any."""
+    panel = programs.panel_of(record)
+    if peer.panel_refusal(panel) or rng.random() < 0.3:
+        return random_minute(rng)
+    return min(361, max(0, int(rng.choice(peer.stages(panel)).start) + rng.choice([-1, 0, 0, 1, 1, 2])))
+
+
 def cases(call, seed, count):
     """Random ones; of `time` and `grade` every thickness and minute from 0 on."""
     rng = random.Random(f"{call} {seed}")
@@ -86,6 +105,11 @@ def cases(call, seed, count):
             yield list(programs.TIMES)[number % 4], number // 4, text
         elif call == "grade":
             yield number, text
+        elif call == "char":
+            record = random_fire(rng, record)
+            yield random_fire_minute(rng, record), record, text
+        elif call == "table":
+            yield rng.choice([400, 400, 361, 361, 362, rng.choice([0, 360, rng.randint(0, 400)])]), random_fire(rng, record), text
         else:
             yield random_minute(rng), random_minute(rng), text
 
@@ -93,9 +117,10 @@ def cases(call, seed, count):
 def pieces(call, all_cases):
     """The cases in groups whose input fits one run."""
     group, size = [], 0
+    most = TABLES if call == "table" else GROUP
     for case in all_cases:
         length = len(f"{call} {programs.CALLS[call][0](*case)}\n")
-        if size + length > ROOM or len(group) == GROUP:
+        if size + length > ROOM or len(group) == most:
             yield group
             group, size = [], 0
         group.append(case)

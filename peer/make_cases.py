@@ -332,36 +332,37 @@ def crossed(*thicknesses):
     return G._replace(moment=0, lamellae=tuple(((i + 1) % 2, 10 * thickness) for i, thickness in enumerate(thicknesses)))
 
 
-# Document 000, tables 16 and 17: panel, lamellae in mm, EI printed unclad and under one board F 12.5 (walls).
+# Document 000, tables 16 and 17: panel, lamellae in mm, EI printed unclad and under one board F 12.5, and the section in mm printed as
+# left unclad after 30 minutes (walls).
 PRINTED_WALLS = (
-    ("80 C3s", (20, 40, 20), 72, 89),
-    ("90 C3s", (30, 30, 30), 81, 93),
-    ("100 C3s", (30, 40, 30), 95, 104),
-    ("120 C3s", (40, 40, 40), 114, 123),
-    ("100 C5s", (20, 20, 20, 20, 20), 73, 84),
-    ("120 C5s", (30, 20, 20, 20, 30), 90, 101),
-    ("140 C5s", (40, 20, 20, 20, 40), 111, 121),
-    ("160 C5s", (40, 20, 40, 20, 40), 129, 137),
+    ("80 C3s", (20, 40, 20), 72, 89, 54.1),
+    ("90 C3s", (30, 30, 30), 81, 93, 64.1),
+    ("100 C3s", (30, 40, 30), 95, 104, 74.1),
+    ("120 C3s", (40, 40, 40), 114, 123, 94.1),
+    ("100 C5s", (20, 20, 20, 20, 20), 73, 84, 74.1),
+    ("120 C5s", (30, 20, 20, 20, 30), 90, 101, 94.1),
+    ("140 C5s", (40, 20, 20, 20, 40), 111, 121, 114.1),
+    ("160 C5s", (40, 20, 40, 20, 40), 129, 137, 134.1),
 )
-# Table 19: unclad ceilings.
+# Table 19: unclad ceilings; the section printed as left after 30, 60 and 90 minutes.
 PRINTED_CEILINGS = (
-    ("100 L5s", (20, 20, 20, 20, 20), 73),
-    ("120 L5s", (30, 20, 20, 20, 30), 90),
-    ("140 L5s", (40, 20, 20, 20, 40), 111),
-    ("160 L5s", (40, 20, 40, 20, 40), 129),
-    ("180 L5s", (40, 30, 40, 30, 40), 143),
-    ("200 L5s", (40, 40, 40, 40, 40), 160),
+    ("100 L5s", (20, 20, 20, 20, 20), 73, (73.5, 34.8, 0.0)),
+    ("120 L5s", (30, 20, 20, 20, 30), 90, (93.5, 64.9, 25.7)),
+    ("140 L5s", (40, 20, 20, 20, 40), 111, (113.5, 94.0, 55.8)),
+    ("160 L5s", (40, 20, 40, 20, 40), 129, (133.5, 114.0, 75.8)),
+    ("180 L5s", (40, 30, 40, 30, 40), 143, (153.5, 134.0, 100.7)),
+    ("200 L5s", (40, 40, 40, 40, 40), 160, (173.5, 154.0, 120.0)),
 )
 
 
 def printed_cases():
     """(panel, text): panels whose EI document 000 prints. Document 01 adds no delay (delta t) behind type F."""
     behind_f = {"boards": (Board(F, 125, 100),), "failure_time": 55_000}
-    for name, lamellae, unclad, _ in PRINTED_WALLS:
+    for name, lamellae, unclad, _, _ in PRINTED_WALLS:
         yield crossed(*lamellae), f"table 16, {name}, printed {unclad}"
-    for name, lamellae, unclad in PRINTED_CEILINGS:
+    for name, lamellae, unclad, _ in PRINTED_CEILINGS:
         yield crossed(*lamellae), f"table 19, {name}, printed {unclad}"
-    for name, lamellae, _, behind in PRINTED_WALLS:
+    for name, lamellae, _, behind, _ in PRINTED_WALLS:
         yield crossed(*lamellae)._replace(**behind_f), f"table 17, {name}, printed {behind}, delta t behind F left out"
     yield crossed(30, 40, 30)._replace(**behind_f), "example A 1.4, printed 104.8, delta t behind F left out"
 
@@ -459,6 +460,115 @@ def rei_cases():
             yield r, ei, f"R {r:,}, EI {ei:,}"
 
 
+def falls(panel, rate):
+    return panel._replace(bond=1, rate=rate)
+
+
+def behind(panel, *boards, failure_time=0, gap=0):
+    return panel._replace(boards=tuple(Board(kind, thickness, 100) for kind, thickness in boards), failure_time=failure_time, gap=gap)
+
+
+def plate(thickness):
+    """One lamella, in tenths of mm."""
+    return G._replace(moment=0, lamellae=((ALONG, thickness),))
+
+
+def starred_char_cases():
+    """(panel, minutes, text)"""
+    yield G, (0, 19, 20, 21, 30, 60, 90, 120, 153, 154, 360, 361, 65_535), "G"
+    yield falls(G, 65), (0, 30, 46, 47, 60, 90, 120, 360, 361), "G falling"
+    yield behind(plate(600), (A, 90)), (11, 12, 22, 23), "A 9.0"
+    yield behind(plate(600), (A, 125)), (20, 21, 40, 41, 60), "A 12.5"
+
+
+def char_boundary_cases():
+    """(panel, minutes, text): a phase ends at the second minute of each pair, or between the two."""
+    yield falls(G, 50), (59, 60, 84, 85, 114, 115, 139, 140, 149, 150), "G falling, rate 50"
+    yield falls(crossed(20, 20, 20), 50), (39, 40, 59, 60, 79, 80), "three of 20 falling"
+    yield falls(crossed(30, 25, 30), 50), (60, 84, 85), "25 mm between lines"
+    yield behind(plate(600), (H, 125), gap=1), (11, 12, 23, 24), "H 12.5 wide"
+    yield behind(plate(600)._replace(rate=100), (A, 125), (H, 125)), (38, 39, 50, 51), "two boards, 25 mm first"
+    yield falls(behind(crossed(25, 60), (A, 125), (H, 125)), 100), (50, 51, 63, 64), "line at 25 mm"
+    yield falls(behind(crossed(12, 20, 20), (A, 125), gap=1), 50), (23, 24, 43, 44), "line at 2 t_f"
+    yield behind(plate(600)._replace(rate=80), (F, 125), failure_time=51_000), (20, 21, 50, 51, 54, 55), "F, t_f, 25 mm"
+    yield behind(plate(600)._replace(rate=50), (F, 200), failure_time=120_125), (120, 121), "F, 25 mm at t_f"
+    yield falls(behind(crossed(10, 30, 30), (F, 125), failure_time=41_000), 80), (40, 41, 56, 57), "F, line before t_f"
+    yield behind(plate(124)._replace(rate=80), (F, 125), failure_time=41_000), (40, 41), "F, back face at t_f"
+    yield behind(plate(120)._replace(rate=75), (F, 200), failure_time=90_000), (66, 67, 90), "F, through before t_f"
+    yield behind(plate(600), (F, 125), (F, 125), failure_time=49_000), (48, 49), "two F, t_f at t_ch"
+    yield behind(plate(600), (F, 125), (F, 125), failure_time=360_000, gap=1), (39, 40, 360), "two F wide, t_f 360"
+
+
+def char_kind_cases():
+    for gap, joint in ((0, "narrow"), (1, "wide")):
+        yield falls(G._replace(gap=gap), 65), (45,), f"unclad, {joint}"
+        for boards, time in (((A,), 0), ((H,), 0), ((F,), 36_500), ((A, H), 0), ((F, F), 55_555)):
+            name = "".join(map(chr, boards))
+            panel = behind(G, *zip(boards, (150, 95)), failure_time=time, gap=gap)
+            yield falls(panel, 73), (33, 77), f"{name} {joint}"
+    yield THICK._replace(moment=0), (360,), "400 mm"
+    yield falls(LONGEST, 100), (90, 130), "the longest record"
+
+
+# The minutes at which the panels of `reading_cases` about charring are asked.
+READING_MINUTES = {
+    "bond line reached as the board fails": (40, 41, 60),
+    "25 mm charred before the board fails": (70, 71, 90),
+    "F fails as charring starts": (11, 12, 22, 23, 30),
+    "bond line before the first run ends": (20, 21, 22, 28, 29),
+    "charred through before the board fails": (14, 15, 360),
+}
+
+
+def printed_char_cases():
+    """(panel, minutes, text): what document 000 prints, in mm. Its 0.86 mm/min behind a wall's first line is not in document 01."""
+    clt_180 = falls(crossed(40, 30, 40, 30, 40), 65)
+    yield clt_180, (90,), "A 1.1 and A 1.3, printed 72.1 and 79.1"
+    wall = falls(behind(crossed(40, 20, 20, 20, 40), (F, 125), failure_time=55_000), 63)
+    for minutes, text in (((20, 21), "t_ch printed 21.0"), ((55,), "printed 16.6"), ((61, 62), "25 mm printed at 61.6"),
+                          ((85, 86), "40 mm printed at 61.6 + 24.0"), ((90,), "printed 43.8 by 0.86 mm/min")):
+        yield wall, minutes, f"A 1.2, {text}"
+    for name, lamellae, _, left in PRINTED_CEILINGS:
+        for minute, section in zip((30, 60, 90), left):
+            yield falls(crossed(*lamellae), 65), (minute,), f"table 19, {name}, printed {section} left"
+    for name, lamellae, _, _, section in PRINTED_WALLS:
+        yield crossed(*lamellae)._replace(rate=63), (30,), f"table 16, {name}, printed {section} left"
+
+
+def char_panel_cases():
+    yield from starred_char_cases()
+    yield from char_boundary_cases()
+    yield from char_kind_cases()
+    for panel, text in reading_cases():
+        yield panel, READING_MINUTES.get(text, ()), text
+    yield from printed_char_cases()
+
+
+def char_cases():
+    """(minute, record, text)"""
+    for panel, minutes, text in char_panel_cases():
+        for minute in minutes:
+            yield minute, peer.encode(panel), text
+    for minute in (0, 361):
+        yield minute, b"", "a blank panel"
+
+
+def table_cases():
+    """(space, record, text)"""
+    for space in (0, 360, 361, 362, 400):
+        yield space, g, f"G into {space}"
+    yield 400, peer.encode(falls(G, 65)), "G falling"
+    yield 361, peer.encode(behind(plate(600), (A, 90))), "A 9.0"
+    for panel, text in reading_cases():
+        if text in READING_MINUTES:
+            yield 400, peer.encode(panel), text
+    yield 400, peer.encode(THICK), "400 mm"
+    yield 400, peer.encode(falls(LONGEST, 50)), "the longest record"
+    yield 361, peer.encode(behind(THICK, (F, 250), (F, 250), failure_time=360_000)), "400 mm, two F 25.0, t_f 360"
+    for space in (0, 400):
+        yield space, b"", f"a blank panel into {space}"
+
+
 # ---------------------------------------------------------------- test_panels
 # The panels that the program builds itself, in its order. Unused places have no counterpart here, and a count of ten or more stands
 # as ten lamellae.
@@ -535,7 +645,8 @@ def built_lines():
 
 # the word of the call: its cases
 CASES = {"read": record_cases, "write": write_cases, "section": section_cases, "build": build_cases,
-         "time": time_cases, "sum": sum_cases, "grade": grade_cases, "rei": rei_cases}
+         "time": time_cases, "sum": sum_cases, "grade": grade_cases, "rei": rei_cases,
+         "char": char_cases, "table": table_cases}
 
 
 def store(repository, name, file, text):

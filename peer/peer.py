@@ -1,10 +1,12 @@
-"""The CLT fire card in exact whole-number arithmetic, written from document 01 alone.
+"""The CLT fire card in exact arithmetic, written from document 01 alone.
 
 A peer of the Rattle code: it shares no line with it, and the two are compared on the same records.
 Lengths are in tenths of mm, times in thousandths of a minute, layer times in hundredths, unless a name says otherwise.
 The parts stand in the order of the document's sections.
 """
+from fractions import Fraction
 from functools import cache
+from math import ceil
 from typing import NamedTuple
 
 # ---------------------------------------------------------------- The panel record
@@ -217,13 +219,112 @@ def t_ch(panel):
     return 280 * boards[0].thickness + inner * boards[1].thickness - less
 
 
+def t_f(panel):
+    """When the boards fail, thousandths of a minute."""
+    return panel.failure_time if is_type_f(panel.boards) else t_ch(panel)
+
+
+class Stage(NamedTuple):
+    start: Fraction  # minutes
+    depth: Fraction  # mm of char at the start
+    rate: Fraction   # mm/min
+    phase: object    # "untouched", "under cladding", ("fast", end in hundred-thousandths of mm) or "settled"
+
+
+FAST_RUN = Fraction(25)  # mm
+
+
+def bond_lines(panel):
+    """The depths in mm, from the exposed face, at which lamellae meet; none where the bond holds."""
+    if panel.bond == 0:
+        return []
+    return [Fraction(thickness_of(panel.lamellae[:i]), 10) for i in range(1, len(panel.lamellae))]
+
+
+def k2(panel):
+    return Fraction(10_000 - 18 * panel.boards[-1].thickness, 10_000)
+
+
+def first_end(panel, depth, failure, rate):
+    """The depth in mm where the first run at this rate ends; not above `depth`, that at t_f, where there is no such run."""
+    if not panel.boards:
+        return depth
+    if t_f(panel) > t_ch(panel):
+        return FAST_RUN
+    ends = min(2 * failure, failure + FAST_RUN / rate)
+    return rate * (ends - failure)
+
+
+@cache
+def stages(panel):
+    """What an accepted panel goes through, in the order of time; a stage ends as the next starts."""
+    beta = Fraction(panel.rate, 100)
+    back = Fraction(thickness_of(panel.lamellae), 10)
+    start, failure = Fraction(t_ch(panel), 1_000), Fraction(t_f(panel), 1_000)
+    passed = [Stage(Fraction(0), Fraction(0), Fraction(0), "untouched")]
+    depth = Fraction(0)
+    if start < failure:
+        slow = k2(panel) * beta
+        passed.append(Stage(start, depth, slow, "under cladding"))
+        depth = slow * (failure - start)
+        if depth >= back:
+            return passed + [Stage(start + back / slow, back, Fraction(0), "settled")]
+    now, lines = failure, bond_lines(panel)
+    end = first_end(panel, depth, failure, 2 * beta)
+    while depth < back:
+        ahead = [line for line in lines if line > depth]
+        if depth in lines:
+            end = min([depth + FAST_RUN] + ahead)
+        if depth < end:
+            rate, phase, goals = 2 * beta, ("fast", int(end * 100_000)), [end]
+        else:
+            rate, phase, goals = beta, "settled", []
+        passed.append(Stage(now, depth, rate, phase))
+        goal = min(goals + ahead + [back])
+        now += (goal - depth) / rate
+        depth = goal
+    return passed + [Stage(now, back, Fraction(0), "settled")]
+
+
+def char(panel, minute):
+    """(char depth in mm, phase) at a time in minutes, whole or a fraction. At a boundary the later stage counts."""
+    stage = [stage for stage in stages(panel) if stage.start <= minute][-1]
+    return stage.depth + stage.rate * (minute - stage.start), stage.phase
+
+
+def micrometres(panel, minute):
+    """The char depth, rounded up."""
+    return ceil(char(panel, minute)[0] * 1_000)
+
+
+def depth_table(panel):
+    return [micrometres(panel, minute) for minute in range(361)]
+
+
+def fill_table(panel, space):
+    """(refusal, space after): 0 and the depths with what lay past them, or a number and the space as it was."""
+    refusal = panel_refusal(panel) or (14 if len(space) < 361 else 0)
+    return (refusal, space) if refusal else (0, depth_table(panel) + space[361:])
+
+
 # ---------------------------------------------------------------- Remaining section
 
+ZERO_STRENGTH = 7        # mm
 SMALLEST_REMAINDER = 30  # 3.0 mm
 
 
 def thickness_of(lamellae):
     return sum(thickness for _, thickness in lamellae)
+
+
+def k0(panel, minute):
+    return min(Fraction(1), Fraction(1_000 * minute, max(20_000, t_ch(panel))))
+
+
+def effective_tenths(panel, minute):
+    """The effective depth, rounded up to a tenth of mm."""
+    depth = char(panel, minute)[0] + k0(panel, minute) * ZERO_STRENGTH
+    return min(ceil(depth * 10), thickness_of(panel.lamellae))
 
 
 def counted_parts(lamellae, depth):

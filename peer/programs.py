@@ -1,8 +1,10 @@
 """What test_calls reads and must print, by peer.py: for a case the line of `stdin` and the line of `stdout`, after the word of its call."""
 import peer
 
-SPACE = 64    # bytes of the writers' array
-FILLED = 238  # what stands in them before
+SPACE = 64     # bytes of the writers' array
+FILLED = 238   # what stands in them before
+ENTRIES = 400  # numbers of the depth table's array
+ENTRY = 7      # what stands in them before
 
 
 def word(record):
@@ -116,6 +118,35 @@ def rei_answer(r, ei, text):
     return f"{refused(refusal) if refusal else peer.rei(r, ei)} {text}"
 
 
+def char_line(minute, record, text):
+    return f"{minute} {word(record)} {text}"
+
+
+def phase_word(phase):
+    return phase if isinstance(phase, str) else f"fast {phase[1]}"
+
+
+def char_answer(minute, record, text):
+    panel = panel_of(record)
+    refusal = peer.panel_refusal(panel) or peer.minute_refusal(minute)
+    if refusal:
+        return f"{refused(refusal)} {text}"
+    phase = phase_word(peer.char(panel, minute)[1])
+    return f"{peer.micrometres(panel, minute)} {peer.effective_tenths(panel, minute)} {phase} {text}"
+
+
+def table_line(space, record, text):
+    return f"{space} {word(record)} {text}"
+
+
+def table_answer(space, record, text):
+    filled = [ENTRY] * ENTRIES
+    refusal, after = peer.fill_table(panel_of(record), filled[:space])
+    after = after + filled[space:]
+    numbers = [sum(after), sum(i * entry for i, entry in enumerate(after))] + [after[i] for i in (0, 90, 360, 361)]
+    return f"{refused(refusal) if refusal else 'filled'} {' '.join(map(str, numbers))} {text}"
+
+
 # the word of the call: (what follows it in stdin, what follows it in stdout)
 CALLS = {
     "read": (read_line, read_answer),
@@ -126,6 +157,8 @@ CALLS = {
     "sum": (sum_line, sum_answer),
     "grade": (grade_line, grade_answer),
     "rei": (rei_line, rei_answer),
+    "char": (char_line, char_answer),
+    "table": (table_line, table_answer),
 }
 
 

@@ -4,6 +4,7 @@ Half are within the limits of document 01, with weight on the limits' ends; the 
 are damaged: cut short, made longer, one byte changed, or no record at all.
 """
 import random
+from math import gcd
 
 import peer
 from peer import Board, Panel
@@ -107,6 +108,29 @@ def at_switch(rng, panel):
     nearest = sorted(range(100, 601), key=lambda thickness: abs(2 * before - basic_time(thickness)))
     changed = with_lamella(panel, lamella, panel.lamellae[lamella][0], nearest[rng.randrange(2)])
     return changed._replace(moment=0)
+
+
+def met_at_failure(rng):
+    """A panel behind boards of type F that fail as the char reaches the end of the first lamella."""
+    while True:
+        panel = random_panel(rng)._replace(moment=0)
+        if not peer.is_type_f(panel.boards):
+            continue
+        start = peer.t_ch(panel)
+        slow = (10_000 - 18 * panel.boards[-1].thickness) * panel.rate  # picometres in a thousandth of a minute
+        step = 10 ** 8 // gcd(10 ** 8, slow)                            # times between whole tenths of mm
+        times = [time for time in range(step, 360_001 - start, step) if 100 <= slow * time // 10 ** 8 <= 600]
+        if times:
+            time = rng.choice(times)
+            return with_lamella(panel._replace(failure_time=start + time), 0, 1, slow * time // 10 ** 8)
+
+
+def soon_failing(rng, panel):
+    """The panel; behind type F the boards fail at t_ch or within the hour after."""
+    if not peer.is_type_f(panel.boards):
+        return panel
+    start = peer.t_ch(panel)
+    return panel._replace(failure_time=start + rng.choice([0, 1, rng.randint(0, 60_000), 1_000 * rng.randint(1, 60)]))
 
 
 def with_length(record):

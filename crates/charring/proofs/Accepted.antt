@@ -18,7 +18,7 @@ use Rattle.numbers.proofs.Booleans.{or-none, in-range}
 use Rattle.limits.proofs.Accepted.{none-fits}
 use Rattle.charring.specs.Fires.{k2, startOf, failureOf}
 use Rattle.charring.specs.Fits.{FireFits}
-use Rattle.charring.proofs.Products.{times}
+use Rattle.numbers.proofs.Products.{times}
 
 board-most : (b : Board) → badBoard b ≡ false → b .thickness ≤ 250
 board-most b e =

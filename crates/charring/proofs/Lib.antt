@@ -13,7 +13,6 @@ pub mod PhaseCases
 pub mod PhaseLaws
 pub mod PhaseOfDepth
 pub mod PhaseTests
-pub mod Products
 pub mod Ramps
 pub mod Replies
 pub mod Rounding

@@ -8,7 +8,7 @@ use Rattle.charring.specs.declared.Fire.{Fire}
 use Rattle.charring.specs.Fires.{tenth}
 use Rattle.charring.specs.Depths.{charAt, effectiveAt, roundUp, tenthsAt}
 use Rattle.charring.specs.Fits.{FireOf, CharOf}
-use Rattle.charring.proofs.Products.{times}
+use Rattle.numbers.proofs.Products.{times}
 
 pub char-is : (p : Panel) (f : Fire) (n r : ℕ) → FireOf p f → CharOf p f (1000 * n) r → r ≡ charAt p n 1
 unfolding charAt

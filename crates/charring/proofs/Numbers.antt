@@ -8,7 +8,7 @@ use Rattle.panel.specs.declared.Panel.{Panel}
 use Rattle.charring.specs.declared.Fire.{Fire}
 use Rattle.charring.specs.Fires.{fastRun, startOf, failureOf, k2, clad, plainRate, slowRate, firstEnd, depthAtFailure}
 use Rattle.charring.specs.Fits.{FireFits, FireOf, FireBounds}
-use Rattle.charring.proofs.Products.{times}
+use Rattle.numbers.proofs.Products.{times}
 
 end-most : (p : Panel) → firstEnd p ≤ 25000000000
 unfolding firstEnd

@@ -1,9 +1,9 @@
 // Char depth and effective depth at a whole minute. No open calls: the limits must hold, and the minute must be at most 360.
 use crate::Fire;
 use crate::fires::fire_of;
-use crate::parts::smaller;
 use crate::walk::walk;
 use numbers::natural::beyond;
+use numbers::natural::smaller;
 use panel::Panel;
 ghost use mathlib.Core.Path.{_≡_};
 ghost use Prim.Native.Nat.{_+_, _-_, _*_, _/_, _≤_, min};

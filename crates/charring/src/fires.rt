@@ -1,9 +1,10 @@
 // What is the same at every minute, worked out once for a panel.
 use crate::Fire;
-use crate::parts::choose_wide;
-use crate::parts::smaller;
+use limits::causes::total_thickness;
 use numbers::natural::beyond;
+use numbers::natural::choose_wide;
 use numbers::natural::larger;
+use numbers::natural::smaller;
 use numbers::natural::wide;
 use panel::Board;
 use panel::Cladding;
@@ -11,11 +12,10 @@ use panel::Panel;
 use panel::boards::charring_start;
 use panel::boards::type_f;
 ghost use mathlib.Core.Path.{_≡_};
-ghost use mathlib.Core.List.{List};
-ghost use Prim.Native.Nat.{ℕ, _-_, _*_, _≤_, min};
+ghost use Prim.Native.Nat.{_-_, _*_, _≤_, min};
 ghost use lib.Dec.{eqb};
 ghost use Rattle.numbers.specs.Choice.{pick};
-ghost use Rattle.panel.specs.Lamellae.{lamellaeOf, thickness};
+ghost use Rattle.panel.specs.Lamellae.{thickness};
 ghost use Rattle.charring.specs.Fires.{fastRun, startOf, failureOf, k2, clad};
 ghost use Rattle.charring.specs.Fits.{FireFits, FireOf, FireBounds};
 
@@ -83,20 +83,6 @@ fn first_end(behind: bool, start: u64, failure: u64, plain: u64) -> u64
     choose_wide(behind, choose_wide(start == failure, early, 25000000000), 0)
 }
 
-// The thickness of the first lamellae, whatever their directions. No open call: the count must be at most 9.
-fn total_thickness(thicknesses: [u16; 9], count: usize) -> u64
-    requires { ⌜ count ≤ 9 ⌝ }
-    ensures { λ r. ⌜ ((gs : List ℕ) → r ≡ thickness (lamellaeOf gs thicknesses count)) ⌝ }
-{
-    let mut sum: u64 = 0;
-    let mut i = 0;
-    while i < count {
-        sum += wide(thicknesses[i]);
-        i += 1;
-    }
-    sum
-}
-
 // No open call: the limits of lines 3, 4, 8, 9, 10 and 11 must hold.
 pub(crate) fn fire_of(p: Panel) -> Fire
     requires { ⌜ FireFits p ⌝ }
@@ -115,7 +101,7 @@ pub(crate) fn fire_of(p: Panel) -> Fire
         plain: 10000 * rate,
         depth: run_of(slow, beyond(failure, start)),
         end: first_end(is_clad(c), start, failure, 10000 * rate),
-        back: 100000000 * total_thickness(thicknesses, p.count),
+        back: 100000000 * (total_thickness(thicknesses, p.count) as u64),
         full: larger(20000, start),
     }
 }

@@ -2,7 +2,6 @@
 pub mod calls;
 mod depths;
 mod fires;
-mod parts;
 mod phases;
 mod table;
 mod walk;

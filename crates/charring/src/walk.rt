@@ -1,9 +1,9 @@
 // The way through the panel from t_f on, from bond line to bond line.
 use crate::Fire;
 use crate::Place;
-use crate::parts::smaller;
 use numbers::natural::beyond;
 use numbers::natural::larger;
+use numbers::natural::smaller;
 use numbers::natural::wide;
 use panel::Panel;
 ghost use mathlib.Core.Path.{_≡_};

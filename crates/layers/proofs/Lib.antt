@@ -1,5 +1,4 @@
 pub mod Accepted
 pub mod LateTimes
-pub mod Products
 pub mod Runs
 pub mod Unused

@@ -101,7 +101,7 @@ pub(crate) fn some_bad_lamella(directions: [u8; 9], thicknesses: [u16; 9], count
 }
 
 // The thickness of the first lamellae, whatever their directions. No open call: the count must be at most 9.
-pub(crate) fn total_thickness(thicknesses: [u16; 9], count: usize) -> u32
+pub fn total_thickness(thicknesses: [u16; 9], count: usize) -> u32
     requires { ⌜ count ≤ 9 ⌝ }
     ensures { λ r. ⌜ ((gs : List ℕ) → r ≡ thickness (lamellaeOf gs thicknesses count)) ⌝ }
 {

@@ -4,3 +4,4 @@ pub mod FirstValues
 pub mod LargestKept
 pub mod Lists
 pub mod Places
+pub mod Products

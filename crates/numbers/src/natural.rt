@@ -1,6 +1,7 @@
 // Natural numbers of 64 bits, as functions whose results are the definitions themselves.
 ghost use mathlib.Core.Path.{_≡_};
-ghost use Prim.Native.Nat.{_-_, _≤_, _<_, max};
+ghost use Prim.Native.Nat.{_-_, _≤_, _<_, min, max};
+ghost use Rattle.numbers.specs.Choice.{pick};
 
 // The difference, or 0 where there is none.
 pub fn beyond(a: u64, b: u64) -> u64
@@ -20,4 +21,16 @@ pub fn wide(x: u16) -> u64
     ensures { λ r. ⌜ (r ≡ x) × (r < 65536) ⌝ }
 {
     x as u64
+}
+
+pub fn smaller(a: u64, b: u64) -> u64
+    ensures { λ r. ⌜ (r ≡ min a b) × ((r ≤ a) × (r ≤ b)) ⌝ }
+{
+    if a <= b { a } else { b }
+}
+
+pub fn choose_wide(test: bool, x: u64, y: u64) -> u64
+    ensures { λ r. ⌜ r ≡ pick test x y ⌝ }
+{
+    if test { x } else { y }
 }

@@ -1,6 +1,7 @@
 // Answers each line of the input: its first word names a call, and the module of that call says what follows and what is printed.
 // The answer begins with the same word. A line with another first word gives `unknown` and what follows.
 mod builds;
+mod chars;
 mod gradings;
 mod reads;
 mod sections;
@@ -32,6 +33,10 @@ fn answer(line: &[u8]) {
         gradings::answer_grade(rest);
     } else if is_word(line, b"rei") {
         gradings::answer_rei(rest);
+    } else if is_word(line, b"char") {
+        chars::answer_char(rest);
+    } else if is_word(line, b"table") {
+        chars::answer_table(rest);
     } else {
         output::text(b"unknown");
         output::end_line(rest);

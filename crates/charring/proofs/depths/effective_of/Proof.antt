@@ -1,5 +1,5 @@
 -- `charring::depths::effective_of` meets its contract: the products are bounded by their factors' bounds. Assumes nothing.
-use Rattle.charring.proofs.Products.{times}
+use Rattle.numbers.proofs.Products.{times}
 use borrow.Author.Needs.{needs}
 use native.Mathlib.Omega.{arith}
 use Rattle.charring.proofs.depths.effective_of.Statement.{statement}

@@ -1,5 +1,5 @@
 -- `charring::depths::twice_run` meets its contract: the product is bounded by its factors' bounds. Assumes nothing.
-use Rattle.charring.proofs.Products.{times}
+use Rattle.numbers.proofs.Products.{times}
 use borrow.Author.Needs.{needs}
 use mathlib.Core.Path.{refl}
 use native.Mathlib.Omega.{arith}

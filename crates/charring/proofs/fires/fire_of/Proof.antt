@@ -10,8 +10,8 @@ use native.Mathlib.Omega.{arith}
 use Rattle.charring.proofs.fires.fire_of.Statement.{statement}
 use Rattle.charring.proofs.fires.fire_of.Tie as tie
 
-mul-t15 : tie.Need-mul-t15
-mul-t15 c =
+mul-t16 : tie.Need-mul-t16
+mul-t16 c =
     let c6 = c .before .before .before .before .before .before in
     let s = c6 .before .before .before .before .before in
     let p = s .args .p in
@@ -58,4 +58,4 @@ fire-of-spec =
     tie.close
     (tie.spec (λ c κs. search needs) (λ c κs. search needs) (λ c. search needs) (λ c κs. search needs) (λ c κs. search needs)
     (λ c. search needs) (λ c κs. search needs) (λ c κs. search needs) (λ c κs. search needs) (λ c. search needs)
-    (λ c κs. search needs) (λ c κs. search needs) mul-t15 (λ c κs. search needs) returns)
+    (λ c κs. search needs) (λ c κs. search needs) (λ c. search needs) mul-t16 (λ c κs. search needs) returns)

@@ -1,5 +1,5 @@
 -- `charring::fires::run_of` meets its contract: the product is bounded by its factors' bounds. Assumes nothing.
-use Rattle.charring.proofs.Products.{times}
+use Rattle.numbers.proofs.Products.{times}
 use mathlib.Core.Path.{refl}
 use native.Mathlib.Omega.{arith}
 use Rattle.charring.proofs.fires.run_of.Statement.{statement}

@@ -1,6 +1,6 @@
 -- `layers::step::late_keeps` meets its contract: the products fit 64 bits by the bounds on their factors. Assumes nothing.
 use Prim.Native.Nat.{_*_, _≤_}
-use Rattle.layers.proofs.Products.{times}
+use Rattle.numbers.proofs.Products.{times}
 use borrow.Author.Needs.{needs}
 use native.Mathlib.Omega.{arith}
 use Rattle.layers.proofs.step.late_keeps.Statement.{statement}

@@ -1,6 +1,6 @@
 -- `layers::step::layer_time` meets its contract: a coefficient of at most 100 makes no time longer. Assumes nothing.
 use Prim.Native.Nat.{ℕ, _*_, _/_, _≤_}
-use Rattle.layers.proofs.Products.{times}
+use Rattle.numbers.proofs.Products.{times}
 use borrow.Author.Needs.{needs}
 use mathlib.Core.Path.{ap}
 use native.Mathlib.Nat.{le-refl}

@@ -1,7 +1,7 @@
 -- `section::test::edge_of` meets its contract: up to 400.0 mm the products fit, and both distances are differences. Assumes nothing.
 use native.Mathlib.Omega.{arith}
 use borrow.Author.Needs.{needs}
-use Rattle.section.proofs.Products.{times}
+use Rattle.numbers.proofs.Products.{times}
 use Rattle.section.proofs.test.edge_of.Statement.{statement}
 use Rattle.section.proofs.test.edge_of.Tie as tie
 

@@ -1,7 +1,7 @@
 -- `section::test::inertia_of` meets its contract: up to 400.0 mm the products fit. Assumes nothing.
 use native.Mathlib.Omega.{arith}
 use borrow.Author.Needs.{needs}
-use Rattle.section.proofs.Products.{times}
+use Rattle.numbers.proofs.Products.{times}
 use Rattle.section.proofs.test.inertia_of.Statement.{statement}
 use Rattle.section.proofs.test.inertia_of.Tie as tie
 

@@ -1,7 +1,7 @@
 -- `section::test::is_within` meets its contract: within the limits of line 5 and 400.0 mm both sides fit. Assumes nothing.
 use native.Mathlib.Omega.{arith}
 use borrow.Author.Needs.{needs}
-use Rattle.section.proofs.Products.{times}
+use Rattle.numbers.proofs.Products.{times}
 use Rattle.section.proofs.test.is_within.Statement.{statement}
 use Rattle.section.proofs.test.is_within.Tie as tie
 

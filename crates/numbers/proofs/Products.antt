@@ -1,4 +1,4 @@
--- A bound on a product from bounds on its factors.
+-- A bound on a product from bounds on its factors, all numbers written out so that omega can be handed it.
 use Prim.Native.Nat.{ℕ, _*_, _≤_}
 use native.Mathlib.Nat.{mul-le-mul}
 

@@ -1,0 +1,141 @@
+// `char MINUTE HEX TEXT`: charring of the record's panel at a minute. Prints the char depth in micrometres, the effective depth in tenths
+// of mm and the phase, or the refusal, and the text.
+// `table SPACE HEX TEXT`: fills the depth table of the record's panel into SPACE lent numbers, at most 400. They are the front of 400
+// numbers, each 7. Prints the answer, the sum of all 400, the sum of each times its place, those at the places 0, 90, 360 and 361, and
+// the text. A refused record stands for a blank panel.
+use charring::DepthAnswer;
+use charring::Phase;
+use charring::PhaseAnswer;
+use charring::TableAnswer;
+use panel::Panel;
+use test_lines::input::after_word;
+use test_lines::input::first_word;
+use test_lines::input::number;
+use test_lines::input::number16;
+use test_lines::output;
+use test_lines::records::panel_of;
+ghost use Prim.Native.Nat.{_≤_};
+ghost use lib.ListN.{length};
+
+fn print_refusal(n: u8) {
+    output::text(b"refused ");
+    output::number(n as u64);
+}
+
+fn print_depth(answer: DepthAnswer) {
+    match answer {
+        DepthAnswer::Depth(depth) => output::number(depth as u64),
+        DepthAnswer::Refused(n) => print_refusal(n),
+    }
+}
+
+fn print_phase(phase: Phase) {
+    match phase {
+        Phase::Untouched => output::text(b"untouched"),
+        Phase::UnderCladding => output::text(b"under cladding"),
+        Phase::Fast(end) => {
+            output::text(b"fast ");
+            output::number(end as u64);
+        }
+        Phase::Settled => output::text(b"settled"),
+    }
+}
+
+fn print_phase_answer(answer: PhaseAnswer) {
+    match answer {
+        PhaseAnswer::At(phase) => print_phase(phase),
+        PhaseAnswer::Refused(n) => print_refusal(n),
+    }
+}
+
+fn print_char(p: Panel, minute: u16) {
+    let answer = charring::calls::char_depth(p, minute);
+    match answer {
+        DepthAnswer::Depth(depth) => {
+            output::number(depth as u64);
+            output::text(b" ");
+            print_depth(charring::calls::effective_depth(p, minute));
+            output::text(b" ");
+            print_phase_answer(charring::calls::phase(p, minute));
+        }
+        DepthAnswer::Refused(n) => print_refusal(n),
+    }
+}
+
+pub fn answer_char(line: &[u8]) {
+    let minute = number16(first_word(line));
+    let rest = after_word(line);
+    output::text(b"char ");
+    print_char(panel_of(first_word(rest)), minute);
+    output::end_line(after_word(rest));
+}
+
+// As many of the lent numbers as there are.
+fn at_most_400(n: u32) -> usize
+    ensures { λ r. ⌜ r ≤ 400 ⌝ }
+{
+    if n < 400 { n as usize } else { 400 }
+}
+
+fn fill_table(p: Panel, out: &mut [u32], space: usize) -> TableAnswer
+    requires { ⌜ space ≤ length (now out) ⌝ }
+{
+    charring::calls::depth_table(p, &mut out[0..space])
+}
+
+fn print_filled(answer: TableAnswer) {
+    match answer {
+        TableAnswer::Filled => output::text(b"filled"),
+        TableAnswer::Refused(n) => print_refusal(n),
+    }
+}
+
+fn print_number(n: u64) {
+    output::text(b" ");
+    output::number(n);
+}
+
+fn wide(entry: u32) -> u64
+    ensures { λ r. ⌜ r ≤ 4294967295 ⌝ }
+{
+    entry as u64
+}
+
+fn print_entry(entry: u32) {
+    print_number(wide(entry));
+}
+
+// The sum of the entries, and the sum of each times its place: from the last entry on, what has been summed so far is added up.
+fn print_sums(entries: [u32; 400]) {
+    let mut sum: u64 = 0;
+    let mut placed: u64 = 0;
+    let mut i = 400;
+    while 0 < i {
+        i -= 1;
+        placed += sum;
+        sum += wide(entries[i]);
+    }
+    print_number(sum);
+    print_number(placed);
+}
+
+fn print_table(p: Panel, space: usize)
+    requires { ⌜ space ≤ 400 ⌝ }
+{
+    let mut entries = [7u32; 400];
+    let answer = fill_table(p, &mut entries, space);
+    print_filled(answer);
+    print_sums(entries);
+    print_entry(entries[0]);
+    print_entry(entries[90]);
+    print_entry(entries[360]);
+    print_entry(entries[361]);
+}
+
+pub fn answer_table(line: &[u8]) {
+    let space = at_most_400(number(first_word(line)));
+    let rest = after_word(line);
+    output::text(b"table ");
+    print_table(panel_of(first_word(rest)), space);
+    output::end_line(after_word(rest));
+}
