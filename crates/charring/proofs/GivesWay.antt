@@ -6,17 +6,16 @@ use mathlib.Core.Bool.{Bool, true, false}
 use native.Mathlib.Omega.{arith}
 use native.Mathlib.Decide.{decLt}
 use native.Mathlib.Nat.{le-trans, mul-le-mul-left}
-use borrow.Author.Tests.{lt-ltb, le-ltb}
 use lib.Dec.{ltb}
 use Rattle.panel.specs.declared.Panel.{Panel}
 use Rattle.charring.specs.declared.Phase.{Phase}
-use Rattle.charring.specs.declared.Phase.the-variants.{Fast, Settled}
-use Rattle.charring.specs.Fires.{startOf, failureOf, backFace, depthAtFailure, firstEnd, bondLines, lineEnd}
+use Rattle.charring.specs.declared.Phase.the-variants.{Fast}
+use Rattle.charring.specs.Fires.{backFace, depthAtFailure, firstEnd, bondLines, lineEnd}
 use Rattle.charring.specs.Stages.{Stretch, stretches, way}
 use Rattle.charring.specs.Depths.{charAt}
 use Rattle.charring.specs.Phases.{phaseAt}
 use Rattle.charring.proofs.DepthLaws.{char-ramp}
-use Rattle.charring.proofs.WayLaws.{Exact, AllExact, none, both, exact-line-end, exact-first, exact-bond}
+use Rattle.charring.proofs.WayLaws.{Exact, AllExact, both, exact-line-end, exact-first, exact-bond}
 use Rattle.charring.proofs.PhaseCases.{Where, through, untouched, under, onward, where-at, fast-not-settled, untouched-not-fast, under-not-fast}
 use Rattle.charring.proofs.PhaseOfDepth.{phaseOfDepth, deep-fast, deep-settled, deep-rest, phase-of-depth}
 

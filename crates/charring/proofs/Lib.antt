@@ -1,4 +1,5 @@
 pub mod Accepted
+pub mod AcceptedPhases
 pub mod Crossing
 pub mod DepthBounds
 pub mod DepthLaws

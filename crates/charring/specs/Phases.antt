@@ -1,12 +1,12 @@
 -- Document 01, "Charring": "At each time the panel is in one phase: untouched, under cladding, fast up to a named end, or settled."
 use Prim.Native.Nat.{ℕ, _+_, _-_, _*_, _/_}
 use mathlib.Core.List.{List, [], _∷_}
-use mathlib.Core.Bool.{Bool, true, false, _&&_}
+use mathlib.Core.Bool.{true, false}
 use lib.Dec.{ltb, leb}
 use Rattle.panel.specs.declared.Panel.{Panel}
 use Rattle.charring.specs.declared.Phase.{Phase}
 use Rattle.charring.specs.declared.Phase.the-variants.{Untouched, UnderCladding, Fast, Settled}
-use Rattle.charring.specs.Fires.{startOf, failureOf, plainRate, clad, backFace}
+use Rattle.charring.specs.Fires.{startOf, failureOf, plainRate, backFace}
 use Rattle.charring.specs.Stages.{Stretch, way, fastPart, settledPart}
 use Rattle.charring.specs.Depths.{charAt}
 

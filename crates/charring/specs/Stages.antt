@@ -1,10 +1,10 @@
 -- Document 01, "Charring", after t_f: the way through the panel, stretch by stretch. The rate after t_f depends on the depth alone.
 use Prim.Native.Nat.{ℕ, _+_, _-_, _*_, min, max}
-use mathlib.Core.List.{List, [], _∷_, _++_}
-use mathlib.Core.Bool.{Bool, true, false}
+use mathlib.Core.List.{List, [], _∷_}
+use mathlib.Core.Bool.{true, false}
 use lib.Dec.{ltb}
 use Rattle.panel.specs.declared.Panel.{Panel}
-use Rattle.charring.specs.Fires.{fastRun, backFace, depthAtFailure, firstEnd, bondLines, lineEnd}
+use Rattle.charring.specs.Fires.{backFace, depthAtFailure, firstEnd, bondLines, lineEnd}
 
 -- a stretch of depth: fast from its start up to its end, if that lies deeper, then settled
 pub record Stretch : Type 0 where
