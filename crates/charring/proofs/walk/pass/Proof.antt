@@ -1,6 +1,6 @@
 -- `charring::walk::pass` meets its contract: the test says whether the stretch is crossed. Assumes nothing.
 use borrow.Author.Needs.{needs}
-use mathlib.Core.Path.{refl}
+use mathlib.Core.Path.{refl, _≡_}
 use native.Mathlib.Omega.{arith}
 use Prim.Native.Nat.{ℕ}
 use Rattle.charring.proofs.walk.pass.Statement.{statement}
