@@ -609,7 +609,7 @@ def built_panels():
 
 def refusals_line(panel, text):
     number = peer.panel_refusal(panel)
-    return f"{number} {number} {number} {number} {number} {number} {number} {text}\n"
+    return f"{' '.join([str(number)] * 11)} {text}\n"
 
 
 def sum_line(panel, text):

@@ -1,6 +1,9 @@
 // Panels that no record gives: built here, field by field, and handed to each open call. A line has the refusals of `panel_refusal`, of
-// `section`, of `write`, of `same_build` with the panel in the first and in the second place, of `ei_sum` and of `ei`, 0 for none, and
-// the panel's name.
+// `section`, of `write`, of `same_build` with the panel in the first and in the second place, of `ei_sum` and `ei`, and at
+// minute 0 of `char_depth`, `effective_depth`, `phase` and `depth_table`, 0 for none, and the panel's name.
+use charring::DepthAnswer;
+use charring::PhaseAnswer;
+use charring::TableAnswer;
 use layers::LayerAnswer;
 use limits::BuildAnswer;
 use limits::SectionAnswer;
@@ -43,6 +46,30 @@ fn layer_refusal(answer: LayerAnswer) -> u8 {
     }
 }
 
+fn depth_refusal(answer: DepthAnswer) -> u8 {
+    match answer {
+        DepthAnswer::Depth(_) => 0,
+        DepthAnswer::Refused(n) => n,
+    }
+}
+
+fn phase_refusal(p: Panel) -> u8 {
+    let answer = charring::calls::phase(p, 0);
+    match answer {
+        PhaseAnswer::At(_) => 0,
+        PhaseAnswer::Refused(n) => n,
+    }
+}
+
+fn table_refusal(p: Panel) -> u8 {
+    let mut space = [0u32; 361];
+    let answer = charring::calls::depth_table(p, &mut space);
+    match answer {
+        TableAnswer::Filled => 0,
+        TableAnswer::Refused(n) => n,
+    }
+}
+
 fn print_refusal(n: u8) {
     output::number(n as u64);
     output::text(b" ");
@@ -55,7 +82,11 @@ fn print_panel(p: Panel, name: &[u8]) {
     print_refusal(build_refusal(p, g()));
     print_refusal(build_refusal(g(), p));
     print_refusal(layer_refusal(layers::calls::ei_sum(p)));
-    output::number(layer_refusal(layers::calls::ei(p)) as u64);
+    print_refusal(layer_refusal(layers::calls::ei(p)));
+    print_refusal(depth_refusal(charring::calls::char_depth(p, 0)));
+    print_refusal(depth_refusal(charring::calls::effective_depth(p, 0)));
+    print_refusal(phase_refusal(p));
+    output::number(table_refusal(p) as u64);
     output::end_line(name);
 }
 
