@@ -1,9 +1,9 @@
 """compare.py REPOSITORY [--records N] [--seed S] [--bin] [WORD..]
 
-Runs the test programs on random records and compares what they print with peer.py. WORD is a call of test_calls, as `read`, or
-`test_panels`; none: all of them. Nothing has to be proved: a program is run by `rt try`, on the interpreter and compiled three ways, in
-a scratch copy of the repository. --bin: runs target/bin/test_calls instead. The input goes in pieces: the program reads 64 KiB at
-most, and the interpreter stops after ten million steps. test_panels reads no input: its `main` is written anew, with random panels,
+Runs the test programs on random records and compares what they print with peer.py. WORD is a call of test_calls or test_cards, as `read`,
+or `test_panels`; none: all of them. Nothing has to be proved: a program is run by `rt try`, on the interpreter and compiled three ways, in
+a scratch copy of the repository. --bin: runs target/bin/test_calls or test_cards instead. The input goes in pieces: a program reads 64 KiB
+at most, and the interpreter stops after ten million steps. test_panels reads no input: its `main` is written anew, with random panels,
 unused places full (not with --bin).
 Ends with status 1 at a disagreement, and prints its line.
 """
@@ -23,7 +23,8 @@ import random_records
 
 ROOM = 65_000  # bytes of one input
 GROUP = 300    # cases of one input
-TABLES = 4     # depth tables of one input: each is many steps
+FEW = 4        # cases of one input where each is many steps: a depth table, a load minute
+MANY_STEPS = ("table", "card", "load", "reserve", "loadgrade", "reigrade")
 
 
 def random_space(rng, record):
@@ -85,8 +86,35 @@ def random_fire_minute(rng, record):
     return min(361, max(0, int(rng.choice(peer.stages(panel)).start) + rng.choice([-1, 0, 0, 1, 1, 2])))
 
 
+def random_load(rng, record):
+    """The record, or most of the time one of a panel that fails at any minute from 0 to 360, at once, or as its boards do."""
+    way = rng.randrange(8)
+    if way == 0:
+        return record
+    if way == 1:
+        return random_fire(rng, record)
+    if way == 2:
+        return peer.encode(random_records.failing_at_once(rng))
+    if way == 3:
+        return peer.encode(random_records.recovering(rng))
+    return peer.encode(random_records.failing_about(rng))
+
+
+def random_card_space(rng, text):
+    """Of the text's length or beside it, none, or any."""
+    return rng.choice([len(text) - 1, len(text), len(text) + 1, 200, 200, rng.choice([0, rng.randint(0, 200)])])
+
+
+def random_wanted(rng, record):
+    """Beside R, or any."""
+    panel = programs.panel_of(record)
+    if peer.panel_refusal(panel) or rng.random() < 0.5:
+        return random_minute(rng)
+    return max(0, peer.load_minute(panel) + rng.choice([-1, 0, 1]))
+
+
 def cases(call, seed, count):
-    """Random ones; of `time` and `grade` every thickness and minute from 0 on."""
+    """Random ones; of `time`, `grade` and `refusal` every thickness, minute and number from 0 on."""
     rng = random.Random(f"{call} {seed}")
     for number in range(count):
         record = random_records.random_record(rng)
@@ -110,16 +138,28 @@ def cases(call, seed, count):
             yield random_fire_minute(rng, record), record, text
         elif call == "table":
             yield rng.choice([400, 400, 361, 361, 362, rng.choice([0, 360, rng.randint(0, 400)])]), random_fire(rng, record), text
-        else:
+        elif call == "rei":
             yield random_minute(rng), random_minute(rng), text
+        elif call == "card":
+            record = random_load(rng, record)
+            yield record, random_card_space(rng, peer.card_text(record)), text
+        elif call == "refusal":
+            yield number % 256, random_card_space(rng, peer.refusal_text(number % 256)), text
+        elif call == "reserve":
+            record = random_load(rng, record)
+            yield record, random_wanted(rng, record), text
+        elif call == "eigrade":
+            yield random_layers(rng, record), text
+        else:
+            yield random_load(rng, record), text
 
 
 def pieces(call, all_cases):
     """The cases in groups whose input fits one run."""
     group, size = [], 0
-    most = TABLES if call == "table" else GROUP
+    most = FEW if call in MANY_STEPS else GROUP
     for case in all_cases:
-        length = len(f"{call} {programs.CALLS[call][0](*case)}\n")
+        length = len(programs.asked(call, case))
         if size + length > ROOM or len(group) == most:
             yield group
             group, size = [], 0
@@ -185,7 +225,8 @@ def first_difference(said, expected):
 
 
 def run_bin(repository, name, given, expected):
-    said = subprocess.run([os.path.join(repository, "target/bin", name)], input=given, capture_output=True, text=True).stdout
+    run = [os.path.join(repository, "target/bin", name)]
+    said = subprocess.run(run, input=given, capture_output=True, text=True, errors="replace").stdout
     at = first_difference(said, expected)
     return None if at is None else (at, (said.split("\n") + [""])[at])
 
@@ -203,17 +244,28 @@ def run_try(scratch, name, given, expected):
     return (expected.encode()[:int(at.group(1))].count(b"\n") if at else 0), said
 
 
+def case_at(call, group, line):
+    """The case whose answer has a line of the expected text; the last one past its end."""
+    for case in group:
+        line -= programs.answered(call, case).count("\n")
+        if line < 0:
+            break
+    return case
+
+
 def compare(run, place, call, seed, count):
-    done = 0
+    done, program = 0, programs.program_of(call)
     for group in pieces(call, cases(call, seed, count)):
         given, expected = programs.lines(call, group)
-        wrong = run(place, "test_calls", given, expected)
+        wrong = run(place, program, given, expected)
         if wrong:
             at, said = wrong
-            print(f"test_calls disagrees at\n  {(given.split(chr(10)) + [''])[at]}\n  peer:    {expected.split(chr(10))[at]}\n  program: {said[:3000]}")
+            case = case_at(call, group, at)
+            print(f"{program} disagrees at\n  {programs.asked(call, case)}  peer:    {expected.split(chr(10))[at]}\n  program: {said[:3000]}")
             return False
         done += len(group)
-        print(f"{call}: {done} agree", flush=True)
+        if done % GROUP < len(group) or done == count:
+            print(f"{call}: {done} agree", flush=True)
     return True
 
 

@@ -569,6 +569,143 @@ def table_cases():
         yield space, b"", f"a blank panel into {space}"
 
 
+# ---------------------------------------------------------------- test_cards
+
+# 400 mm along that chars 180 mm in 360 minutes: its effective depth is 187.0 mm then.
+LASTING = THICK._replace(rate=50, strength=240, moment=0)
+# Fails in the tenths 68 to 70 alone, that is after minute 6 and before minute 7.
+BETWEEN = RECOVERS._replace(rate=70, moment=13_800)
+# A record whose failure time is a whole minute.
+WHOLE = Panel(0, 80, 0, 240, 500, 61_000, (Board(F, 125, 100),), ((ALONG, 600),))
+LONG_CARD = falls(G._replace(moment=0, lamellae=((ALONG, 100),) + ((ALONG, 250),) * 8), 100)
+SHORT_CARD = behind(SHORTEST._replace(moment=460), (F, 250), (F, 250), failure_time=360_000)
+
+
+def load_panels():
+    """(panel, text): what document 01 says of R, the ends of R, and panels whose R a short cut misses."""
+    yield G, "G, moment 3,000, exact 6,740/65"
+    yield falls(G, 65), "G falling, moment 3,000"
+    yield G._replace(moment=0), "G, moment 0"
+    yield G._replace(moment=42_000), "G, moment 42,000, fails in the first minute"
+    yield G._replace(moment=43_056), "G, moment 43,056, fails after time 0"
+    yield RECOVERS, "the panel that recovers, from its first failing tenth"
+    yield BETWEEN, "fails between two whole minutes alone, and recovers"
+    yield WHOLE, "fails at minute 83 exactly"
+    most = greatest_moment(LASTING, 1_870)
+    yield LASTING._replace(moment=most), "400 mm, rate 50, fails at minute 360 exactly"
+    yield LASTING._replace(moment=most + 1), "400 mm, rate 50, fails in the tenth before minute 360"
+    yield LASTING, "400 mm, rate 50, moment 0"
+    yield behind(LASTING, (F, 250), (F, 250), failure_time=360_000), "400 mm, moment 0, two F 25.0, t_f 360"
+    yield behind(plate(600), (A, 90)), "A 9.0, fast up to 22.4 min"
+    yield behind(plate(600), (A, 125)), "A 12.5, k0 full at 21 min"
+    yield behind(G, (F, 125), (F, 125), failure_time=60_000), "two F 12.5, t_ch 49,000"
+    yield LONG_CARD, "a long card"
+    yield SHORT_CARD, "a short card"
+
+
+def unstarred_cases():
+    """(record, text)"""
+    for thickness in (100, 99):
+        yield peer.encode(with_first_lamella(G, ALONG, thickness)), f"lamella {thickness}"
+    for thickness in (90, 250, 89, 251):
+        yield peer.encode(one(thickness=thickness)), f"board {thickness}"
+
+
+def refused_cases():
+    """(record, text): each of lines 1 to 13, and bytes that are no record."""
+    yield b"", "no bytes"
+    yield patched(g, VERSION, 2), "version 2"
+    yield patched(g, BOND, 2), "bond 2"
+    yield patched(g, RATE, 101), "rate 101"
+    yield peer.encode(G._replace(strength=401)), "strength 401"
+    yield patched(g, BOARDS, 3), "three boards counted"
+    yield peer.encode(two(F, A, failure_time=49_000)), "F over A"
+    yield peer.encode(one(joint=0)), "coefficient 0"
+    yield peer.encode(G._replace(failure_time=1)), "given 1, unclad"
+    yield patched(g, lamella_count_at, 4), "four lamellae counted, three there"
+    yield peer.encode(with_first_lamella(G, 2, 300)), "direction 2"
+    yield peer.encode(G._replace(lamellae=((ACROSS, 300),))), "none along"
+    yield peer.encode(G._replace(moment=43_057)), "G, moment 43,057"
+    yield g[:20], "cut to 20 bytes"
+    yield with_length(peer.encode(LONGEST) + b"\0"), "54 bytes"
+    yield g + bytes(33), "60 bytes, G before zeros"
+    yield with_length(g + bytes(101)), "128 bytes, length field right"
+    counted = {text: record for record, text in length_cases()}
+    for text in ("two lamellae counted, one there", "two lamellae counted, one there, given 1, unclad",
+                 "two boards, unknown type, one byte short"):
+        yield counted[text], text
+
+
+def space_cases():
+    """(record, space, text): a space is long enough when this very card fits."""
+    for name, panel in (("G", G), ("the long card", LONG_CARD), ("the short card", SHORT_CARD)):
+        length = len(peer.card(panel))
+        for space in (0, 1, length - 1, length, length + 1):
+            yield peer.encode(panel), space, f"{name}, {length} bytes into {space}"
+    length = len(peer.card(G))
+    yield peer.encode(LONG_CARD), length, "the long card where G's fits"
+    yield peer.encode(SHORT_CARD), length, "the short card where G's fits"
+    for space in (0, 10, 11):
+        yield peer.encode(G._replace(moment=43_057)), space, f"G, moment 43,057, refused before the space of {space} is looked at"
+    yield b"", 0, "no bytes, no space"
+
+
+def card_cases():
+    """(record, space, text)"""
+    for panel, text in load_panels():
+        yield peer.encode(panel), 200, text
+    for panel, text in reading_cases():
+        yield peer.encode(panel), 200, text
+    yield peer.encode(LONGEST), 200, "the longest record"
+    for record, text in list(unstarred_cases()) + list(refused_cases()):
+        yield record, 200, text
+    yield from space_cases()
+
+
+def refusal_cases():
+    """(number, space, text)"""
+    for number in list(range(16)) + [99, 100, 255]:
+        length = len(peer.refusal_text(number))
+        yield number, length, f"number {number}, exact space"
+    for number in (1, 9, 10, 15, 0, 255):
+        length = len(peer.refusal_text(number))
+        for space, name in ((0, "no space"), (length - 1, "a byte short"), (length + 1, "a byte more"), (200, "long space")):
+            yield number, space, f"number {number}, {name}"
+
+
+def panel_record_cases():
+    """(record, text)"""
+    for panel, text in load_panels():
+        yield peer.encode(panel), text
+    for panel, text in reading_cases():
+        yield peer.encode(panel), text
+    yield peer.encode(G._replace(moment=43_057)), "a refused record, so a blank panel"
+    yield b"", "no bytes, so a blank panel"
+
+
+def reserve_cases():
+    """(record, wanted, text)"""
+    for wanted in (0, 90, 102, 103, 104, 120, 360, 361, 65_535):
+        yield g, wanted, f"G, R 103, wanted {wanted:,}"
+    for wanted in (0, 1, 360, 361):
+        yield peer.encode(G._replace(moment=43_056)), wanted, f"R 0, wanted {wanted}"
+    for wanted in (0, 359, 360, 361):
+        yield peer.encode(LASTING), wanted, f"R 360, wanted {wanted}"
+    for wanted in (6, 7, 60):
+        yield peer.encode(RECOVERS), wanted, f"the panel that recovers, wanted {wanted}"
+    for wanted in (83, 84):
+        yield peer.encode(WHOLE), wanted, f"fails at minute 83 exactly, wanted {wanted}"
+    for wanted in (0, 360, 361):
+        yield b"", wanted, f"a blank panel, wanted {wanted}"
+
+
+def grade_panel_cases():
+    """(record, text)"""
+    yield from panel_record_cases()
+    yield peer.encode(SHORTEST), "one lamella of 10, EI below 10"
+    yield peer.encode(crossed(60, 60, 60, 60, 60)), "300 mm, EI above 240"
+
+
 # ---------------------------------------------------------------- test_panels
 # The panels that the program builds itself, in its order. Unused places have no counterpart here, and a count of ten or more stands
 # as ten lamellae.
@@ -646,19 +783,26 @@ def built_lines():
 # the word of the call: its cases
 CASES = {"read": record_cases, "write": write_cases, "section": section_cases, "build": build_cases,
          "time": time_cases, "sum": sum_cases, "grade": grade_cases, "rei": rei_cases,
-         "char": char_cases, "table": table_cases}
+         "char": char_cases, "table": table_cases,
+         "card": card_cases, "refusal": refusal_cases, "load": panel_record_cases, "reserve": reserve_cases,
+         "loadgrade": grade_panel_cases, "eigrade": grade_panel_cases, "reigrade": grade_panel_cases}
+
+# the program that prints a card: what it reads
+CARD_INPUTS = {"card": g, "card_empty": b"", "card_long": g + bytes(200 - len(g)), "card_refused": peer.encode(G._replace(moment=43_057))}
 
 
-def store(repository, name, file, text):
-    with open(os.path.join(repository, "crates", name, file), "w") as out:
-        out.write(text)
+def store(repository, name, file, data):
+    folder = os.path.join(repository, "crates", name)
+    os.makedirs(folder, exist_ok=True)
+    with open(os.path.join(folder, file), "wb") as out:
+        out.write(data)
 
 
-def called_lines():
-    """The text of stdin and of stdout of test_calls."""
+def called_lines(program):
+    """The text of stdin and of stdout of a program that is told its calls."""
     given, expected = "", ""
-    for call, cases in CASES.items():
-        cases = list(cases())
+    for call in programs.PROGRAMS[program]:
+        cases = list(CASES[call]())
         asked, answered = programs.lines(call, cases)
         assert len(set(asked.split("\n"))) == len(cases) + 1, f"{call}: a case twice"
         print(f"{call}: {len(cases)} cases")
@@ -668,13 +812,18 @@ def called_lines():
 
 
 def main(repository):
-    given, expected = called_lines()
-    store(repository, "test_calls", "stdin", given)
-    store(repository, "test_calls", "stdout", expected)
-    print(f"test_calls: {len(given)} bytes")
+    for program in programs.PROGRAMS:
+        given, expected = called_lines(program)
+        store(repository, program, "stdin", given.encode())
+        store(repository, program, "stdout", expected.encode())
+        print(f"{program}: {len(given)} bytes")
     built = list(built_lines())
-    store(repository, "test_panels", "stdout", "".join(built))
+    store(repository, "test_panels", "stdout", "".join(built).encode())
     print(f"test_panels: {len(built)} lines")
+    for program, record in CARD_INPUTS.items():
+        store(repository, program, "stdin", record)
+        store(repository, program, "stdout", peer.card_text(record))
+        print(f"{program}: {len(record)} bytes")
 
 
 if __name__ == "__main__":

@@ -6,7 +6,7 @@ The parts stand in the order of the document's sections.
 """
 from fractions import Fraction
 from functools import cache
-from math import ceil
+from math import ceil, floor
 from typing import NamedTuple
 
 # ---------------------------------------------------------------- The panel record
@@ -321,10 +321,19 @@ def k0(panel, minute):
     return min(Fraction(1), Fraction(1_000 * minute, max(20_000, t_ch(panel))))
 
 
+def weakened(panel, minute):
+    """Char depth and zero-strength layer together, in mm, not held at the panel's thickness."""
+    return char(panel, minute)[0] + k0(panel, minute) * ZERO_STRENGTH
+
+
+def effective_depth(panel, minute):
+    """In mm, at a time in minutes, whole or a fraction."""
+    return min(weakened(panel, minute), Fraction(thickness_of(panel.lamellae), 10))
+
+
 def effective_tenths(panel, minute):
     """The effective depth, rounded up to a tenth of mm."""
-    depth = char(panel, minute)[0] + k0(panel, minute) * ZERO_STRENGTH
-    return min(ceil(depth * 10), thickness_of(panel.lamellae))
+    return ceil(effective_depth(panel, minute) * 10)
 
 
 def counted_parts(lamellae, depth):
@@ -359,6 +368,73 @@ def section(panel, depth):
 
 def depth_passes(panel, depth):
     return section(panel, depth)[5]
+
+
+def time_passes(panel, minute):
+    """At a time in minutes, whole or a fraction: every tenth from 0 to its effective depth, rounded up, passes."""
+    return all(depth_passes(panel, depth) for depth in range(effective_tenths(panel, minute) + 1))
+
+
+@cache
+def first_failing(panel):
+    """The first depth, in tenths of mm, that does not pass. There is one: at the thickness nothing is counted."""
+    return next(depth for depth in range(thickness_of(panel.lamellae) + 1) if not depth_passes(panel, depth))
+
+
+def last_time_at(panel, depth):
+    """The last time, in minutes, at which the effective depth is `depth` mm or less; `depth` is from 0 up to below the thickness.
+
+    `weakened` is a line between two bends, and rises from 0 until the panel is charred through.
+    """
+    bends = sorted({stage.start for stage in stages(panel)} | {Fraction(max(20_000, t_ch(panel)), 1_000)})
+    past = next(i for i, bend in enumerate(bends) if weakened(panel, bend) > depth)
+    start, end = bends[past - 1], bends[past]
+    low, high = weakened(panel, start), weakened(panel, end)
+    return start + (end - start) * (depth - low) / (high - low)
+
+
+def exact_failure(panel):
+    """When the effective depth leaves the last tenth before a failing one, in minutes; None where the panel passes through 360."""
+    failure = last_time_at(panel, Fraction(first_failing(panel) - 1, 10))
+    return None if failure >= 360 else failure
+
+
+@cache
+def load_minute(panel):
+    """R of an accepted panel: the failure time's whole minutes, at most 360."""
+    failure = exact_failure(panel)
+    return 360 if failure is None else floor(failure)
+
+
+def scanned_minute(panel):
+    """R found by trying one whole minute after the other: the last before one fails, at most 360."""
+    tried = -1
+    for minute in range(361):
+        depth = effective_tenths(panel, minute)
+        if not all(depth_passes(panel, tenth) for tenth in range(tried + 1, depth + 1)):
+            return minute - 1
+        tried = depth
+    return 360
+
+
+def check_load_minute(panel):
+    """Holds R and the exact failure time of an accepted panel to the definition of a passing time."""
+    r, failure = load_minute(panel), exact_failure(panel)
+    assert r == scanned_minute(panel), panel
+    assert time_passes(panel, r), panel
+    if failure is None:
+        assert r == 360, panel
+        return
+    soon = Fraction(1, 10 ** 9)
+    assert effective_depth(panel, failure) * 10 == first_failing(panel) - 1, panel
+    assert r <= failure < r + 1 and r < 360, panel
+    assert time_passes(panel, failure) and not time_passes(panel, failure + soon) and not time_passes(panel, r + 1), panel
+
+
+def reserve(panel, wanted):
+    """(refusal, R minus the wanted minute)"""
+    refusal = panel_refusal(panel) or minute_refusal(wanted)
+    return (refusal, 0) if refusal else (0, load_minute(panel) - wanted)
 
 
 # ---------------------------------------------------------------- Layer times
@@ -459,3 +535,61 @@ def rei(r, ei):
 def minute_refusal(*minutes):
     """15 where a bare minute is above 360, or 0."""
     return 15 if any(minute > 360 for minute in minutes) else 0
+
+
+def graded(minute_of, panel):
+    """(refusal, grade) of one of a panel's minutes."""
+    refusal = panel_refusal(panel)
+    return (refusal, 0) if refusal else (0, grade(minute_of(panel)))
+
+
+def load_grade(panel):
+    return graded(load_minute, panel)
+
+
+def ei_grade(panel):
+    return graded(ei_minute, panel)
+
+
+def rei_grade(panel):
+    return graded(lambda panel: min(load_minute(panel), ei_minute(panel)), panel)
+
+
+# ---------------------------------------------------------------- The card
+
+CARD_MINUTES = (30, 60, 90, 120)
+
+
+def card(panel):
+    """The bytes of an accepted panel's card."""
+    r, ei = load_minute(panel), ei_minute(panel)
+    lines = ["CARD 1"]
+    lines += [f"CHAR {minute} {micrometres(panel, minute)} {effective_tenths(panel, minute)}" for minute in CARD_MINUTES]
+    lines += [f"R {r} {grade(r)}", f"EI {ei} {grade(ei)}", f"REI {rei(r, ei)}"]
+    return "".join(f"{line}\n" for line in lines).encode("ascii")
+
+
+def refusal_text(refusal):
+    return b"REFUSED %d\n" % refusal
+
+
+def card_text(record):
+    """What the program `card` prints for the bytes it reads."""
+    refusal, panel = decode(record)
+    return refusal_text(refusal) if refusal else card(panel)
+
+
+def written(text, space_length):
+    """(refusal, bytes written) of a text into a lent space."""
+    return (14, 0) if space_length < len(text) else (0, len(text))
+
+
+def card_call(record, space_length):
+    """(refusal, bytes written) of a record's card into a lent space; a refusal writes nothing."""
+    refusal, panel = decode(record)
+    return (refusal, 0) if refusal else written(card(panel), space_length)
+
+
+def refusal_call(number, space_length):
+    """(refusal, bytes written) of a refusal's line into a lent space."""
+    return written(refusal_text(number), space_length)

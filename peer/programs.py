@@ -1,4 +1,5 @@
-"""What test_calls reads and must print, by peer.py: for a case the line of `stdin` and the line of `stdout`, after the word of its call."""
+"""What test_calls and test_cards read and must print, by peer.py: for a case the line of `stdin` and the line of `stdout`, after the word
+of its call. Below the line of a written card or refusal stand its own lines, as they are in the lent space."""
 import peer
 
 SPACE = 64     # bytes of the writers' array
@@ -147,22 +148,99 @@ def table_answer(space, record, text):
     return f"{refused(refusal) if refusal else 'filled'} {' '.join(map(str, numbers))} {text}"
 
 
-# the word of the call: (what follows it in stdin, what follows it in stdout)
-CALLS = {
-    "read": (read_line, read_answer),
-    "write": (write_line, write_answer),
-    "section": (section_line, section_answer),
-    "build": (build_line, build_answer),
-    "time": (time_line, time_answer),
-    "sum": (sum_line, sum_answer),
-    "grade": (grade_line, grade_answer),
-    "rei": (rei_line, rei_answer),
-    "char": (char_line, char_answer),
-    "table": (table_line, table_answer),
+def written_answer(refusal, text, written):
+    """How many bytes were written, that the space past them is the same (on a refusal all of it), and the bytes themselves."""
+    if refusal:
+        return f"{refused(refusal)} same {text}"
+    return f"{len(written)} same {text}\n{written.decode('ascii').removesuffix(chr(10))}"
+
+
+def card_line(record, space, text):
+    return f"{word(record)} {space} {text}"
+
+
+def card_answer(record, space, text):
+    return written_answer(peer.card_call(record, space)[0], text, peer.card_text(record))
+
+
+def refusal_line(number, space, text):
+    return f"{number} {space} {text}"
+
+
+def refusal_answer(number, space, text):
+    return written_answer(peer.refusal_call(number, space)[0], text, peer.refusal_text(number))
+
+
+def number_or_refusal(answer, text):
+    refusal, number = answer
+    return f"{refused(refusal) if refusal else number} {text}"
+
+
+def load_line(record, text):
+    return f"{word(record)} {text}"
+
+
+def load_answer(record, text):
+    panel = panel_of(record)
+    refusal = peer.panel_refusal(panel)
+    return number_or_refusal((refusal, None if refusal else peer.load_minute(panel)), text)
+
+
+def reserve_line(record, wanted, text):
+    return f"{word(record)} {wanted} {text}"
+
+
+def reserve_answer(record, wanted, text):
+    return number_or_refusal(peer.reserve(panel_of(record), wanted), text)
+
+
+def panel_grade_line(record, text):
+    return f"{word(record)} {text}"
+
+
+def panel_grade_answer(grade_of):
+    return lambda record, text: number_or_refusal(grade_of(panel_of(record)), text)
+
+
+# the program: the word of the call: (what follows it in stdin, what follows it in stdout)
+PROGRAMS = {
+    "test_calls": {
+        "read": (read_line, read_answer),
+        "write": (write_line, write_answer),
+        "section": (section_line, section_answer),
+        "build": (build_line, build_answer),
+        "time": (time_line, time_answer),
+        "sum": (sum_line, sum_answer),
+        "grade": (grade_line, grade_answer),
+        "rei": (rei_line, rei_answer),
+        "char": (char_line, char_answer),
+        "table": (table_line, table_answer),
+    },
+    "test_cards": {
+        "card": (card_line, card_answer),
+        "refusal": (refusal_line, refusal_answer),
+        "load": (load_line, load_answer),
+        "reserve": (reserve_line, reserve_answer),
+        "loadgrade": (panel_grade_line, panel_grade_answer(peer.load_grade)),
+        "eigrade": (panel_grade_line, panel_grade_answer(peer.ei_grade)),
+        "reigrade": (panel_grade_line, panel_grade_answer(peer.rei_grade)),
+    },
 }
+CALLS = {call: pair for calls in PROGRAMS.values() for call, pair in calls.items()}
+
+
+def program_of(call):
+    return next(name for name, calls in PROGRAMS.items() if call in calls)
+
+
+def asked(call, case):
+    return f"{call} {CALLS[call][0](*case)}\n"
+
+
+def answered(call, case):
+    return f"{call} {CALLS[call][1](*case)}\n"
 
 
 def lines(call, cases):
     """The text of stdin and of stdout for the cases of one call."""
-    line, answer = CALLS[call]
-    return "".join(f"{call} {line(*case)}\n" for case in cases), "".join(f"{call} {answer(*case)}\n" for case in cases)
+    return "".join(asked(call, case) for case in cases), "".join(answered(call, case) for case in cases)

@@ -35,9 +35,9 @@ def random_lamellae(rng):
     return tuple(zip(directions, thicknesses))
 
 
-def greatest_moment(panel):
-    """The greatest moment at which depth 0 passes, or 0 where there is none."""
-    n, p, q, lo, hi, _ = peer.section(panel, 0)
+def greatest_moment(panel, depth=0):
+    """The greatest moment at which a depth in tenths of mm passes, or 0 where there is none."""
+    n, p, q, lo, hi, _ = peer.section(panel, depth)
     edge = max(p - 2 * n * lo, 2 * n * hi - p)
     return 23 * panel.strength * (4 * n * q - 3 * p ** 2) // (120_000 * edge) if edge else 0
 
@@ -133,6 +133,37 @@ def soon_failing(rng, panel):
     return panel._replace(failure_time=start + rng.choice([0, 1, rng.randint(0, 60_000), 1_000 * rng.randint(1, 60)]))
 
 
+def failing_about(rng):
+    """A panel that fails about a minute from 0 to 360: it carries just as much as the depth of that minute does, or one more."""
+    while True:
+        minute = end_or_between(rng, 0, 360) if rng.random() < 0.2 else rng.randint(0, 360)
+        panel = soon_failing(rng, random_panel(rng)) if rng.random() < 0.5 else random_panel(rng)
+        moment = greatest_moment(panel, peer.effective_tenths(panel, minute)) + rng.choice([0, 0, 1])
+        if 1 < moment <= min(1_000_000, greatest_moment(panel)):
+            return panel._replace(moment=moment)
+
+
+def recovering(rng):
+    """A panel with a depth that carries less than a deeper one does, and a moment between the two or beside the lesser."""
+    while True:
+        panel = random_panel(rng)
+        bottom = 0
+        for direction, thickness in panel.lamellae[:-1]:
+            bottom += thickness
+            # the last depth at which what is left of the lamella counts, and the next
+            least, next_one = (greatest_moment(panel, bottom - 30 + more) for more in (0, 1))
+            if direction == 1 and least + 1 < min(next_one, 1_000_000, greatest_moment(panel)):
+                most = min(next_one, 1_000_000, greatest_moment(panel))
+                return panel._replace(moment=rng.choice([least, least + 1, rng.randint(least + 1, most)]))
+
+
+def failing_at_once(rng):
+    """A panel that carries at depth 0 little more than its moment."""
+    panel = random_panel(rng)
+    most = min(1_000_000, greatest_moment(panel))
+    return panel._replace(moment=rng.randint(most - most // 10, most))
+
+
 def with_length(record):
     """The record with its own length in the length field."""
     return len(record).to_bytes(2, "big") + record[2:]
@@ -178,3 +209,6 @@ def records(seed, count):
 if __name__ == "__main__":
     from collections import Counter
     print(sorted(Counter(peer.decode(record)[0] for record in records(1, 20_000)).items()))
+    rng = random.Random(1)
+    for panels in (random_panel, failing_about, failing_at_once, recovering):
+        print(panels.__name__, sorted(Counter(peer.load_minute(panels(rng)) // 30 * 30 for _ in range(300)).items()))

@@ -1,5 +1,5 @@
--- THE CLAIM: what document 01 says of its starred panels is what the definitions give, by computation. Assumes nothing.
-use lib.Dec.{T}
+-- THE CLAIM: every row of the starred table holds of the definitions. The tests are computed here; that a row whose test is true
+-- holds is `all-tested`. Assumes nothing.
 use Rattle.numbers.specs.Largest.{largest}
 use Rattle.panel.specs.Lamellae.{lamellaeOf, thickness}
 use Rattle.section.specs.Sections.{countedFrom, total, lowest, highest, sectionOf}
@@ -8,11 +8,13 @@ use Rattle.limits.specs.Causes.{some}
 use Rattle.limits.specs.Refusals.{panelRefusal}
 use Rattle.charring.specs.Fires.{failureOf, k2, clad, firstEnd, linesFrom, bondLines, lineEnd}
 use Rattle.charring.specs.Stages.{stretches, way, charred}
-use Rattle.charring.specs.Depths.{charAt}
+use Rattle.charring.specs.Depths.{charAt, effectiveAt}
+use Rattle.load.specs.Scan.{nextPass, lastPassing, loadScan, failsRightAfter}
 use Rattle.basic_times.specs.Rules.{basicTime}
 use Rattle.layers.specs.Layers.{protection, insulation, jointOf, positioned, withProtection, withInsulation, sumAfter, eiSum}
-use Rattle.cases.specs.Starred.{starred, agree}
+use Rattle.cases.specs.Starred.{starred, EveryRowHolds}
+use Rattle.cases.proofs.Tested.{agree, all-tested}
 
-pub starred-agree : T (agree starred)
-unfolding starred agree largest lamellaeOf thickness countedFrom total lowest highest sectionOf carries some panelRefusal basicTime protection insulation jointOf positioned withProtection withInsulation sumAfter eiSum failureOf k2 clad firstEnd linesFrom bondLines lineEnd stretches way charred charAt
-starred-agree = tt
+pub starred-hold : EveryRowHolds starred
+unfolding starred agree largest lamellaeOf thickness countedFrom total lowest highest sectionOf carries some panelRefusal basicTime protection insulation jointOf positioned withProtection withInsulation sumAfter eiSum failureOf k2 clad firstEnd linesFrom bondLines lineEnd stretches way charred charAt effectiveAt nextPass lastPassing loadScan failsRightAfter
+starred-hold = all-tested starred tt

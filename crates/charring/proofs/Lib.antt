@@ -16,6 +16,7 @@ pub mod PhaseOfDepth
 pub mod PhaseTests
 pub mod Ramps
 pub mod Replies
+pub mod Rising
 pub mod Rounding
 pub mod Runs
 pub mod Unused

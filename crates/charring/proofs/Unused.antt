@@ -10,7 +10,7 @@ use Rattle.panel.specs.Lamellae.{Lamella, SameUsed}
 use Rattle.panel.proofs.Used.{same-lamellae}
 use Rattle.charring.specs.Fires.{startOf, failureOf, plainRate, backFace, firstEnd, linesFrom, bondLines}
 use Rattle.charring.specs.Stages.{Stretch, way}
-use Rattle.charring.specs.Depths.{charAt, effectiveAt, micrometresAt}
+use Rattle.charring.specs.Depths.{charAt, effectiveAt, micrometresAt, tenthsAt}
 use Rattle.charring.specs.Phases.{phaseOn, phaseAt}
 use Rattle.charring.specs.declared.Phase.{Phase}
 use Rattle.charring.specs.declared.Phase.the-variants.{Untouched, UnderCladding, Settled}
@@ -48,7 +48,7 @@ way-same p q h =
 
 -- Depths and phases
 
-char-same : (p q : Panel) → SameUsed p q → (n m : ℕ) → charAt p n m ≡ charAt q n m
+pub char-same : (p q : Panel) → SameUsed p q → (n m : ℕ) → charAt p n m ≡ charAt q n m
 unfolding charAt
 char-same p q h n m =
     rw (way-same p q h, failure-same p q h, same-lamellae p q h, h .rate, h .gap, h .cladding) refl
@@ -56,6 +56,9 @@ char-same p q h n m =
 effective-same : (p q : Panel) → SameUsed p q → (n m : ℕ) → effectiveAt p n m ≡ effectiveAt q n m
 unfolding effectiveAt
 effective-same p q h n m = rw (char-same p q h n m, same-lamellae p q h, h .gap, h .cladding) refl
+
+pub tenths-same : (p q : Panel) → SameUsed p q → (n m : ℕ) → tenthsAt p n m ≡ tenthsAt q n m
+tenths-same p q h n m = rw (effective-same p q h n m, h .gap, h .cladding) refl
 
 -- the phase as it follows from what a panel gives
 abbrev phaseFrom : ℕ → ℕ → ℕ → ℕ → ℕ → List Stretch → ℕ → ℕ → Phase
@@ -81,7 +84,7 @@ phase-same p q h n m =
 
 -- Answers
 
-minute-refusal-same : (p q : Panel) → SameUsed p q → (minute : ℕ) → minuteRefusal p minute ≡ minuteRefusal q minute
+pub minute-refusal-same : (p q : Panel) → SameUsed p q → (minute : ℕ) → minuteRefusal p minute ≡ minuteRefusal q minute
 unfolding minuteRefusal
 minute-refusal-same p q h minute =
     rw
@@ -106,7 +109,7 @@ char-unused p q h minute = rw (minute-refusal-same p q h minute, char-same p q h
 pub effective-unused : (p q : Panel) → SameUsed p q → (minute : ℕ) → effectiveAnswer p minute ≡ effectiveAnswer q minute
 unfolding effectiveAnswer
 effective-unused p q h minute =
-    rw (minute-refusal-same p q h minute, effective-same p q h minute 1, h .gap, h .cladding) refl
+    rw (minute-refusal-same p q h minute, tenths-same p q h minute 1) refl
 
 table-same : (p q : Panel) → SameUsed p q → depthTable p ≡ depthTable q
 unfolding depthTable

@@ -2,8 +2,9 @@
 use crate::DepthAnswer;
 use crate::PhaseAnswer;
 use crate::TableAnswer;
-use crate::depths::micrometres_at;
-use crate::depths::tenths_at;
+use crate::depths::micrometres_in;
+use crate::depths::tenths_in;
+use crate::fires::fire_of;
 use crate::phases::phase_at;
 use crate::table::fill;
 use limits::calls::panel_refusal;
@@ -13,7 +14,7 @@ ghost use mathlib.Core.Path.{_≡_};
 ghost use Rattle.charring.specs.Answers.{minuteRefusal, phaseAnswer, charAnswer, effectiveAnswer, tableAnswer, tableAfter};
 
 // Lines 3 to 13 of a panel, then line 15 of a minute.
-fn minute_refusal(p: Panel, minute: u16) -> u8
+pub fn minute_refusal(p: Panel, minute: u16) -> u8
     ensures { λ r. ⌜ r ≡ minuteRefusal p minute ⌝ }
 {
     let n = panel_refusal(p);
@@ -42,7 +43,7 @@ pub fn char_depth(p: Panel, minute: u16) -> DepthAnswer
     if n != 0 {
         return DepthAnswer::Refused(n);
     }
-    DepthAnswer::Depth(micrometres_at(p, minute as u64))
+    DepthAnswer::Depth(micrometres_in(p, fire_of(p), minute as u64))
 }
 
 // The effective depth at a whole minute, in tenths of mm, rounded up.
@@ -53,7 +54,7 @@ pub fn effective_depth(p: Panel, minute: u16) -> DepthAnswer
     if n != 0 {
         return DepthAnswer::Refused(n);
     }
-    DepthAnswer::Depth(tenths_at(p, minute as u64))
+    DepthAnswer::Depth(tenths_in(p, fire_of(p), minute as u64))
 }
 
 // The char depths of minutes 0 to 360 in micrometres, rounded up, into the lent space.

@@ -1,6 +1,5 @@
 // Char depth and effective depth at a whole minute. No open calls: the limits must hold, and the minute must be at most 360.
 use crate::Fire;
-use crate::fires::fire_of;
 use crate::walk::walk;
 use numbers::natural::beyond;
 use numbers::natural::smaller;
@@ -8,7 +7,7 @@ use panel::Panel;
 ghost use mathlib.Core.Path.{_≡_};
 ghost use Prim.Native.Nat.{_+_, _-_, _*_, _/_, _≤_, min};
 ghost use Rattle.charring.specs.Fires.{tenth};
-ghost use Rattle.charring.specs.Depths.{charAt, micrometresAt, tenthsAt, roundUp};
+ghost use Rattle.charring.specs.Depths.{micrometresAt, tenthsAt, roundUp};
 ghost use Rattle.charring.specs.Fits.{FireFits, FireOf, FireBounds, CharOf};
 
 pub(crate) fn twice_run(rate: u64, time: u64) -> u64
@@ -33,21 +32,14 @@ pub(crate) fn char_of(p: Panel, f: Fire, time: u64) -> u64
     smaller(under + after, 2 * f.back)
 }
 
-pub(crate) fn char_at(p: Panel, minute: u64) -> u64
+// The char depth in micrometres, rounded up, by what is the same at every minute.
+pub fn micrometres_in(p: Panel, f: Fire, minute: u64) -> u32
     requires { ⌜ FireFits p ⌝ }
-    requires { ⌜ minute ≤ 360 ⌝ }
-    ensures { λ r. ⌜ (r ≡ charAt p minute 1) × (r ≤ 800000000000) ⌝ }
-{
-    char_of(p, fire_of(p), 1000 * minute)
-}
-
-// The char depth in micrometres, rounded up.
-pub(crate) fn micrometres_at(p: Panel, minute: u64) -> u32
-    requires { ⌜ FireFits p ⌝ }
+    requires { ⌜ FireOf p f × FireBounds f ⌝ }
     requires { ⌜ minute ≤ 360 ⌝ }
     ensures { λ r. ⌜ r ≡ micrometresAt p minute 1 ⌝ }
 {
-    ((char_at(p, minute) + 1999999) / 2000000) as u32
+    ((char_of(p, f, 1000 * minute) + 1999999) / 2000000) as u32
 }
 
 // The effective depth, half picometres times full.
@@ -72,13 +64,13 @@ fn rounded_up(n: u64, d: u64) -> u32
     ((n + (by - 1)) / by) as u32
 }
 
-// The effective depth in tenths of mm, rounded up.
-pub(crate) fn tenths_at(p: Panel, minute: u64) -> u32
+// The effective depth in tenths of mm, rounded up, by what is the same at every minute.
+pub fn tenths_in(p: Panel, f: Fire, minute: u64) -> u32
     requires { ⌜ FireFits p ⌝ }
+    requires { ⌜ FireOf p f × FireBounds f ⌝ }
     requires { ⌜ minute ≤ 360 ⌝ }
     ensures { λ r. ⌜ r ≡ tenthsAt p minute 1 ⌝ }
 {
-    let f = fire_of(p);
     let n = effective_of(char_of(p, f, 1000 * minute), 1000 * minute, f.full, f.back);
     rounded_up(n, f.full)
 }

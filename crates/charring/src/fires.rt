@@ -84,7 +84,7 @@ fn first_end(behind: bool, start: u64, failure: u64, plain: u64) -> u64
 }
 
 // No open call: the limits of lines 3, 4, 8, 9, 10 and 11 must hold.
-pub(crate) fn fire_of(p: Panel) -> Fire
+pub fn fire_of(p: Panel) -> Fire
     requires { ⌜ FireFits p ⌝ }
     ensures { λ r. ⌜ FireOf p r × FireBounds r ⌝ }
 {

@@ -1,7 +1,7 @@
 // Charring behind cladding and bond lines (document 01, "Charring"): char depth, phase and effective depth at a time.
 pub mod calls;
-mod depths;
-mod fires;
+pub mod depths;
+pub mod fires;
 mod phases;
 mod table;
 mod walk;
@@ -34,7 +34,7 @@ pub enum TableAnswer {
 
 // What is the same at every minute: t_ch and t_f, the rates under cladding and after it, the depth at t_f, where the first run
 // ends, the back face, and when k0 is 1. Times in thousandths of a minute, lengths in picometres.
-pub(crate) struct Fire {
+pub struct Fire {
     pub start: u64,
     pub failure: u64,
     pub slow: u64,

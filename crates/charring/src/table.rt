@@ -1,5 +1,6 @@
 // The depth table: a depth for each minute 0 to 360.
-use crate::depths::micrometres_at;
+use crate::depths::micrometres_in;
+use crate::fires::fire_of;
 use panel::Panel;
 ghost use mathlib.Core.Path.{_≡_};
 ghost use mathlib.Core.List.{_++_};
@@ -14,9 +15,10 @@ pub(crate) fn fill(p: Panel, out: &mut [u32])
     requires { ⌜ 361 ≤ length (now out) ⌝ }
     ensures { λ _. ⌜ now (out .exit) ≡ depthTable p ++ drop 361 (now (out .entry)) ⌝ }
 {
+    let f = fire_of(p);
     let mut i = 0;
     while i < 361 {
-        out[i] = micrometres_at(p, i as u64);
+        out[i] = micrometres_in(p, f, i as u64);
         i += 1;
     }
 }

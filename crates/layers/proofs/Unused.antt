@@ -4,12 +4,15 @@ use Rattle.panel.specs.declared.Panel.{Panel}
 use Rattle.panel.specs.Lamellae.{SameUsed}
 use Rattle.panel.proofs.Used.{same-lamellae}
 use Rattle.limits.proofs.Unused.{refusal-unused}
-use Rattle.layers.specs.Layers.{eiSum}
+use Rattle.layers.specs.Layers.{eiSum, eiMinute}
 use Rattle.layers.specs.Answers.{eiAnswer, eiSumAnswer}
 
 sum-unused : (p q : Panel) → SameUsed p q → eiSum p ≡ eiSum q
 unfolding eiSum
 sum-unused p q h = rw (same-lamellae p q h, h .cladding) refl
+
+pub ei-minute-same : (p q : Panel) → SameUsed p q → eiMinute p ≡ eiMinute q
+ei-minute-same p q h = rw (sum-unused p q h) refl
 
 pub ei-sum-unused : (p q : Panel) → SameUsed p q → eiSumAnswer p ≡ eiSumAnswer q
 unfolding eiSumAnswer
@@ -17,4 +20,4 @@ ei-sum-unused p q h = rw (refusal-unused p q h, sum-unused p q h) refl
 
 pub ei-unused : (p q : Panel) → SameUsed p q → eiAnswer p ≡ eiAnswer q
 unfolding eiAnswer
-ei-unused p q h = rw (refusal-unused p q h, sum-unused p q h) refl
+ei-unused p q h = rw (refusal-unused p q h, ei-minute-same p q h) refl

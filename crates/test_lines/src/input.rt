@@ -104,6 +104,12 @@ pub fn number16(word: &[u8]) -> u16 {
     if n < 65535 { n as u16 } else { 65535 }
 }
 
+// The same, at most the greatest u8.
+pub fn number8(word: &[u8]) -> u8 {
+    let n = number(word);
+    if n < 255 { n as u8 } else { 255 }
+}
+
 // A hexadecimal digit's value; 0 for any other character.
 fn hex_digit(c: u8) -> u8
     ensures { λ r. ⌜ r ≤ 15 ⌝ }

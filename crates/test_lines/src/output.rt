@@ -9,6 +9,11 @@ pub fn number(n: u64) {
     io::print_decimal(STDOUT_FILENO, n);
 }
 
+pub fn refused(n: u8) {
+    text(b"refused ");
+    number(n as u64);
+}
+
 fn hex_byte(b: u8) {
     io::print_hex(STDOUT_FILENO, b as u64, 2);
 }

@@ -17,20 +17,27 @@ returns c =
     let e = c .before .minute-refusal .ensures in
     ap Refused e ∙ refused (minuteRefusal (a .p) (a .minute)) Refused (Depth (micrometresAt (a .p) (a .minute) 1)) (λ z. c .if1 .taken (e ∙ z))
 
-micrometres-at-requires : tie.Need-micrometres-at-requires
-micrometres-at-requires c κs =
+fire-of-requires : tie.Need-fire-of-requires
+fire-of-requires c κs =
     let a = c .before .before .args in
-    let h = minute-taken (a .p) (a .minute) (sym (c .before .minute-refusal .ensures) ∙ c .if1 .left) in
-    (fire-fits (a .p) (h .0), h .1)
+    fire-fits (a .p) (minute-taken (a .p) (a .minute) (sym (c .before .minute-refusal .ensures) ∙ c .if1 .left) .0)
+
+micrometres-in-requires : tie.Need-micrometres-in-requires
+micrometres-in-requires c κs =
+    let r = c .before .before in
+    let a = r .before .args in
+    let h = minute-taken (a .p) (a .minute) (sym (r .minute-refusal .ensures) ∙ c .before .if1 .left) in
+    (fire-fits (a .p) (h .0), (c .fire-of .ensures, h .1))
 
 returns-2 : tie.Need-returns-2
 unfolding charAnswer
 returns-2 c =
-    let r = c .before .before in
+    let r = c .before .before .before in
     let a = r .before .args in
-    ap Depth (c .micrometres-at .ensures)
-    ∙ answered (minuteRefusal (a .p) (a .minute)) Refused (Depth (micrometresAt (a .p) (a .minute) 1)) (sym (r .minute-refusal .ensures) ∙ c .before .if1 .left)
+    ap Depth (c .micrometres-in .ensures)
+    ∙ answered (minuteRefusal (a .p) (a .minute)) Refused (Depth (micrometresAt (a .p) (a .minute) 1)) (sym (r .minute-refusal .ensures) ∙ c .before .before .if1 .left)
 
 pub char-depth-spec : {M : Type 1} → statement M
 char-depth-spec =
-    tie.close (tie.spec (λ c κs. search needs) returns micrometres-at-requires returns-2)
+    tie.close
+    (tie.spec (λ c κs. search needs) returns fire-of-requires micrometres-in-requires returns-2)

@@ -17,20 +17,27 @@ returns c =
     let e = c .before .minute-refusal .ensures in
     ap Refused e ∙ refused (minuteRefusal (a .p) (a .minute)) Refused (Depth (tenthsAt (a .p) (a .minute) 1)) (λ z. c .if1 .taken (e ∙ z))
 
-tenths-at-requires : tie.Need-tenths-at-requires
-tenths-at-requires c κs =
+fire-of-requires : tie.Need-fire-of-requires
+fire-of-requires c κs =
     let a = c .before .before .args in
-    let h = minute-taken (a .p) (a .minute) (sym (c .before .minute-refusal .ensures) ∙ c .if1 .left) in
-    (fire-fits (a .p) (h .0), h .1)
+    fire-fits (a .p) (minute-taken (a .p) (a .minute) (sym (c .before .minute-refusal .ensures) ∙ c .if1 .left) .0)
+
+tenths-in-requires : tie.Need-tenths-in-requires
+tenths-in-requires c κs =
+    let r = c .before .before in
+    let a = r .before .args in
+    let h = minute-taken (a .p) (a .minute) (sym (r .minute-refusal .ensures) ∙ c .before .if1 .left) in
+    (fire-fits (a .p) (h .0), (c .fire-of .ensures, h .1))
 
 returns-2 : tie.Need-returns-2
 unfolding effectiveAnswer
 returns-2 c =
-    let r = c .before .before in
+    let r = c .before .before .before in
     let a = r .before .args in
-    ap Depth (c .tenths-at .ensures)
-    ∙ answered (minuteRefusal (a .p) (a .minute)) Refused (Depth (tenthsAt (a .p) (a .minute) 1)) (sym (r .minute-refusal .ensures) ∙ c .before .if1 .left)
+    ap Depth (c .tenths-in .ensures)
+    ∙ answered (minuteRefusal (a .p) (a .minute)) Refused (Depth (tenthsAt (a .p) (a .minute) 1)) (sym (r .minute-refusal .ensures) ∙ c .before .before .if1 .left)
 
 pub effective-depth-spec : {M : Type 1} → statement M
 effective-depth-spec =
-    tie.close (tie.spec (λ c κs. search needs) returns tenths-at-requires returns-2)
+    tie.close
+    (tie.spec (λ c κs. search needs) returns fire-of-requires tenths-in-requires returns-2)

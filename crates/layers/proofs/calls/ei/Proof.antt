@@ -1,6 +1,4 @@
--- `layers::calls::ei` meets its contract: the layers of a panel that no line turns back. Assumes nothing.
-use Prim.Native.Nat.{ℕ, _/_, min}
-use Rattle.layers.proofs.Accepted.{layers-fit}
+-- `layers::calls::ei` meets its contract: EI of a panel that no line turns back. Assumes nothing.
 use Rattle.layers.specs.Answers.{eiAnswer}
 use Rattle.layers.specs.Layers.{eiMinute}
 use Rattle.layers.specs.declared.LayerAnswer.the-variants.{Value, Refused}
@@ -18,16 +16,14 @@ returns c =
     ap Refused (c .before .panel-refusal .ensures)
     ∙ refused (panelRefusal p) Refused (Value (eiMinute p)) (λ z. c .if1 .taken (c .before .panel-refusal .ensures ∙ z))
 
-ei-sum-of-requires : tie.Need-ei-sum-of-requires
-ei-sum-of-requires c κs = layers-fit (c .before .before .args .p) (sym (c .before .panel-refusal .ensures) ∙ c .if1 .left)
-
 returns-2 : tie.Need-returns-2
 unfolding eiAnswer
 returns-2 c =
-    let p = c .before .before .before .before .args .p in
-    ap Value (c .at-most-360 .ensures ∙ ap (λ (k : ℕ). min (k / 100) 360) (c .before .ei-sum-of .ensures)) ∙ answered (panelRefusal p) Refused (Value (eiMinute p)) (sym (c .before .before .before .panel-refusal .ensures) ∙ c .before .before .if1 .left)
+    let p = c .before .before .before .args .p in
+    ap Value (c .ei-minute-of .ensures .0)
+    ∙ answered (panelRefusal p) Refused (Value (eiMinute p)) (sym (c .before .before .panel-refusal .ensures) ∙ c .before .if1 .left)
 
 pub ei-spec : {M : Type 1} → statement M
 ei-spec =
     tie.close
-    (tie.spec (λ c κs. search needs) returns ei-sum-of-requires (λ c κs. search needs) returns-2)
+    (tie.spec (λ c κs. search needs) returns (λ c κs. sym (c .before .panel-refusal .ensures) ∙ c .if1 .left) returns-2)

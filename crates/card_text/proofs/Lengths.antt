@@ -1,0 +1,28 @@
+-- How many bytes a line takes, and the fields of one number more.
+use Prim.Native.Nat.{ℕ, _+_, _*_, _≤_, _<_}
+use mathlib.Core.Path.{_≡_, sym, ap, _∙_}
+use mathlib.Core.List.{List, [], _∷_, _++_, append-assoc, append-nil}
+use native.Mathlib.Omega.{arith}
+use lib.ListN.{length, take, getD, length-append}
+use lib.Seq.{take-suc}
+use native.Mathlib.Numerals.{add-one}
+use Rattle.card_text.specs.Text.{decimal, fields, line}
+use Rattle.card_text.proofs.Digits.{decimal-length}
+
+pub length-fields : (ns : List ℕ) → length (fields ns) ≤ 11 * length ns
+unfolding fields
+length-fields [] = omega arith
+length-fields (n ∷ ns) = simp length-append (omega (arith, decimal-length n, length-fields ns))
+
+pub length-line : (head ns : List ℕ) → length (line head ns) ≤ length head + 11 * length ns + 1
+length-line head ns = simp length-append (omega (arith, length-fields ns))
+
+-- one number more, at the end
+pub fields-more : (ns : List ℕ) (n : ℕ) → fields (ns ++ (n ∷ [])) ≡ fields ns ++ (32 ∷ decimal n)
+unfolding fields
+fields-more [] n = append-nil (32 ∷ decimal n)
+fields-more (m ∷ ns) n =
+    ap (λ (xs : List ℕ). (32 ∷ decimal m) ++ xs) (fields-more ns n) ∙ sym (append-assoc (32 ∷ decimal m) (fields ns) (32 ∷ decimal n))
+
+pub fields-take : (ns : List ℕ) (i : ℕ) → i < length ns → fields (take (i + 1) ns) ≡ fields (take i ns) ++ (32 ∷ decimal (getD ns i 0))
+fields-take ns i h = ap fields (rw add-one (take-suc ns i 0 h)) ∙ fields-more (take i ns) (getD ns i 0)

@@ -1,0 +1,4 @@
+pub mod Digits
+pub mod Lengths
+pub mod Reading
+pub mod Storing

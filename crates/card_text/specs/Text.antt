@@ -1,0 +1,40 @@
+-- Document 01, the printed card: numbers and lines as text, and how they are read back.
+use Prim.Native.Nat.{ℕ, zero, suc, _+_, _-_, _*_, _/_, _%_}
+use mathlib.Core.Bool.{true, false}
+use mathlib.Core.List.{List, [], _∷_, _++_}
+use lib.Dec.{ltb, eqb}
+use Rattle.numbers.specs.Choice.{outside}
+
+-- the decimal digits of n in ASCII, at most k of them, with no leading zeros
+unfoldable pub digits : ℕ → ℕ → List ℕ
+digits zero n = []
+digits (suc k) n = elim (ltb n 10) [ true ↦ (48 + n) ∷ [] | false ↦ digits k (n / 10) ++ ((48 + n % 10) ∷ []) ]
+
+-- a number of 32 bits has at most ten digits
+abbrev pub decimal : ℕ → List ℕ
+decimal n = digits 10 n
+
+-- "Fields stand one blank apart"
+unfoldable pub fields : List ℕ → List ℕ
+fields [] = []
+fields (n ∷ ns) = (32 ∷ decimal n) ++ fields ns
+
+-- "and each line ends in one line feed."
+abbrev pub line : List ℕ → List ℕ → List ℕ
+line head ns = head ++ fields ns ++ (10 ∷ [])
+
+-- Reading back
+
+-- what follows the first byte `mark`; nothing where there is none
+unfoldable pub after : ℕ → List ℕ → List ℕ
+after mark [] = []
+after mark (c ∷ cs) = elim (eqb c mark) [ true ↦ cs | false ↦ after mark cs ]
+
+-- the number that begins with v and goes on with the digits at the start of a text
+unfoldable pub numberFrom : ℕ → List ℕ → ℕ
+numberFrom v [] = v
+numberFrom v (c ∷ cs) = elim (outside 48 57 c) [ true ↦ v | false ↦ numberFrom (10 * v + (c - 48)) cs ]
+
+-- the number in the first field of a line
+abbrev pub firstNumber : List ℕ → ℕ
+firstNumber text = numberFrom 0 (after 32 text)

@@ -1,0 +1,36 @@
+-- Demand 3 of the user, sentence by sentence. A time is n/q minutes, q not 0; two times are compared by multiplying out.
+use Prim.Native.Nat.{ℕ, suc, _*_, _≤_, _<_}
+use mathlib.Core.Path.{_≡_}
+use mathlib.Core.List.{List}
+use mathlib.Core.Logic.{_⊎_, _↔_}
+use Rattle.panel.specs.declared.Panel.{Panel}
+use Rattle.record.specs.Layouts.{panelOf}
+use Rattle.record.specs.Refusals.{recordRefusal}
+use Rattle.load.specs.Failure.{TimePasses, PassesUpTo, NotAboveFailure, AboveFailure}
+use Rattle.load.specs.Exposure.{NotEnlarged}
+use Rattle.card_text.specs.Text.{after, firstNumber}
+use Rattle.fire_card.specs.Printed.{Printed}
+
+-- the printed load minute: the number on the card's line R, which comes after five line feeds
+abbrev pub printedMinute : List ℕ → ℕ
+printedMinute text = firstNumber (after 10 (after 10 (after 10 (after 10 (after 10 text)))))
+
+-- what is demanded of a panel and its printed load minute
+pub record Demanded (p : Panel) (printed : ℕ) : Type 0 where
+  -- "a whole minute from 0 to 360 is at or below the printed load minute exactly when every time up to that minute passes, fractions
+  -- of a minute included"
+  pub exactly : (minute : ℕ) → minute ≤ 360 → (minute ≤ printed) ↔ PassesUpTo (TimePasses p) minute 1
+  -- "The printed minute is never above the exact failure time"
+  pub notAbove : NotAboveFailure (TimePasses p) printed 1
+  -- "and less than one minute below it, or is 360 where the panel passes through 360"
+  pub close : AboveFailure (TimePasses p) (suc printed) 1 ⊎ ((printed ≡ 360) × PassesUpTo (TimePasses p) 360 1)
+  -- "unless it is 360, some time before the following minute fails"; and it is never more
+  pub following : (printed ≡ 360 → ⊥) → AboveFailure (TimePasses p) (suc printed) 1
+  pub most : printed ≤ 360
+  -- "whichever two times are taken, fractions and times past failure included, more exposure never enlarges the remaining section"
+  pub exposure : (n q r s : ℕ) → 0 < q → 0 < s → n * s ≤ r * q → NotEnlarged p n q r s
+
+-- "For every accepted record, whatever lamellae, boards and moment it gives": of the bytes b of the record, and whatever text the
+-- program prints for them
+abbrev pub Demand3 : Type 0
+Demand3 = (b : List ℕ) → recordRefusal b ≡ 0 → (text : List ℕ) → Printed b text → Demanded (panelOf b) (printedMinute text)

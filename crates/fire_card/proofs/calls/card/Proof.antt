@@ -1,0 +1,66 @@
+-- `fire_card::calls::card` meets its contract: the card of an accepted record, made aside and then delivered. Assumes nothing.
+use Prim.Native.Nat.{ℕ}
+use Rattle.card_text.proofs.Storing.{put-text, put-count}
+use Rattle.fire_card.proofs.Cards.{read-refusal, read-panel, card-refused, card-delivered, card-length}
+use Rattle.fire_card.specs.Answers.{textAnswer, textAfter}
+use Rattle.fire_card.specs.Card.{cardText}
+use Rattle.limits.specs.Refusals.{panelRefusal}
+use Rattle.load.specs.Failure.{IsLoadMinute}
+use Rattle.panel.specs.declared.Panel.{Panel}
+use Rattle.record.proofs.Sound.{record-panel}
+use Rattle.record.specs.Answers.{decode}
+use Rattle.record.specs.Layouts.{panelOf}
+use Rattle.record.specs.Refusals.{recordRefusal}
+use Rattle.record.specs.declared.Reading.{Reading}
+use borrow.Author.Needs.{needs}
+use denote.Ref.{now}
+use mathlib.Core.List.{List}
+use mathlib.Core.Path.{_≡_, sym, ap, subst, _∙_}
+use native.Mathlib.Nat.{le-refl}
+use Rattle.fire_card.proofs.calls.card.Statement.{statement}
+use Rattle.fire_card.proofs.calls.card.Tie as tie
+
+-- what is read, by the refusal that stands beside it
+none-read : (b : List ℕ) (x : Reading) → x ≡ decode b → x .refusal ≡ 0 → (recordRefusal b ≡ 0) × (x .panel ≡ panelOf b)
+none-read b x e z =
+    let none = sym (ap (λ (y : Reading). y .refusal) e ∙ read-refusal b) ∙ z in
+    (none, ap (λ (y : Reading). y .panel) e ∙ read-panel b none)
+
+returns : tie.Need-returns
+returns c =
+    let r = c .before .before in
+    let a = r .before .before .before .args in
+    card-refused (now (a .bytes)) (now (a .out)) (r .read .result .refusal)
+    (ap (λ (x : Reading). x .refusal) (r .read .ensures) ∙ read-refusal (now (a .bytes))) (c .if1 .taken)
+
+put-card-requires : tie.Need-put-card-requires
+put-card-requires c κs =
+    let r = c .before .before .before in
+    let bytes = now (r .before .before .before .args .bytes) in
+    let h = none-read bytes (r .read .result) (r .read .ensures) (c .before .if1 .left) in
+    (ap panelRefusal (h .1) ∙ record-panel bytes (h .0), le-refl 232)
+
+slice-aggregate-deliver : tie.Need-slice-aggregate-deliver
+slice-aggregate-deliver c =
+    let k = c .before .before .put-card .ensures in
+    put-count (k .put) (card-length (c .before .before .before .before .before .before .read .result .panel) (k .load))
+
+returns-2 : tie.Need-returns-2
+returns-2 c =
+    let d = c .before .before .deliver in
+    let c6 = c .before .before .before .before .before .before in
+    let r = c6 .before .before .before .before in
+    let a = r .before .before .before .args in
+    let bytes = now (a .bytes) in
+    let space = now (a .out) in
+    let h = none-read bytes (r .read .result) (r .read .ensures) (c6 .before .before .if1 .left) in
+    let k = c6 .put-card .ensures in
+    let t = put-text (k .put) (card-length (r .read .result .panel) (k .load)) ∙ ap (λ (p : Panel). cardText p (k .load)) (h .1) in
+    card-delivered bytes space (d .last .1 .0) (d .result) (k .load) (h .0) (subst (λ (p : Panel). IsLoadMinute p (k .load)) (h .1) (k .is))
+    (d .ensures .0 ∙ ap (λ (text : List ℕ). textAnswer text space) t) (d .ensures .1 ∙ ap (λ (text : List ℕ). textAfter text space) t)
+
+pub card-spec : {M : Type 1} → statement M
+card-spec =
+    tie.close
+    (tie.spec (λ c κs. search needs) returns (λ c. search needs) put-card-requires (λ c. search needs)
+    slice-aggregate-deliver (λ c κs. search needs) (λ c. search needs) returns-2)

@@ -1,0 +1,9 @@
+pub mod Closeness
+pub mod ExactFailure
+pub mod Exposure
+pub mod Replies
+pub mod Reserves
+pub mod ScanSteps
+pub mod Scanned
+pub mod Unused
+pub mod WholeParts

@@ -1,0 +1,4 @@
+pub mod Failure
+pub mod Exposure
+pub mod Scan
+pub mod Answers

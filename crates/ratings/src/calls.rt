@@ -1,0 +1,42 @@
+// The open calls of this crate: they ask nothing of their caller.
+use grades::Grade;
+use grades::GradeAnswer;
+use layers::minutes::ei_minute_of;
+use limits::calls::panel_refusal;
+use load::minutes::load_minute_of;
+use panel::Panel;
+ghost use mathlib.Core.Path.{_≡_};
+ghost use Rattle.ratings.specs.Answers.{LoadGraded, eiGraded, BothGraded};
+
+// The grade of the load minute.
+pub fn load_grade(p: Panel) -> GradeAnswer
+    ensures { λ r. ⌜ LoadGraded p r ⌝ }
+{
+    let n = panel_refusal(p);
+    if n != 0 {
+        return GradeAnswer::Refused(n);
+    }
+    GradeAnswer::Of(Grade::of(load_minute_of(p)))
+}
+
+// The grade of EI.
+pub fn ei_grade(p: Panel) -> GradeAnswer
+    ensures { λ r. ⌜ r ≡ eiGraded p ⌝ }
+{
+    let n = panel_refusal(p);
+    if n != 0 {
+        return GradeAnswer::Refused(n);
+    }
+    GradeAnswer::Of(Grade::of(ei_minute_of(p) as u16))
+}
+
+// The REI grade, of the lower of R and EI.
+pub fn rei_grade(p: Panel) -> GradeAnswer
+    ensures { λ r. ⌜ BothGraded p r ⌝ }
+{
+    let n = panel_refusal(p);
+    if n != 0 {
+        return GradeAnswer::Refused(n);
+    }
+    GradeAnswer::Of(Grade::of_lower(load_minute_of(p), ei_minute_of(p) as u16))
+}

@@ -1,0 +1,92 @@
+"""check.py [N]: holds peer.py to the figures of document 01 and of the notes on its readings, and R to its definition on
+the panels of test_cards and N random ones."""
+import random
+import sys
+from fractions import Fraction
+
+import peer
+import random_records
+from make_cases import (A, ALONG, F, G, RECOVERS, behind, crossed, falls, load_panels, one, plate, reading_cases, two,
+                        with_first_lamella)
+
+PRINTED = b"""CARD 1
+CHAR 30 19500 265
+CHAR 60 39000 460
+CHAR 90 58500 655
+CHAR 120 78000 850
+R 103 90
+EI 95 90
+REI 90
+"""
+
+
+def same(said, expected):
+    assert said == expected, f"{said} where {expected} is stated"
+
+
+def of(record):
+    """The panel of an accepted record in hexadecimal."""
+    refusal, panel = peer.decode(bytes.fromhex(record))
+    same(refusal, 0)
+    same(peer.encode(panel).hex(), record)
+    return panel
+
+
+def check_document():
+    """Panels worked through, the card, and the shortcuts."""
+    same([peer.t_ch(one()), peer.t_ch(one(gap=1)), peer.t_ch(two(F, F))], [21_000, 12_000, 49_000])
+    same(peer.char(behind(plate(600), (A, 90)), Fraction(224, 10)), (Fraction(1456, 100), "settled"))
+    same(peer.char(behind(plate(600), (A, 125)), 60)[0], Fraction(3785, 100))
+    same(peer.k0(one(), 20), Fraction(20, 21))
+    same([peer.char(falls(G, 65), minute)[0] for minute in (60, 90)], [48, 72])
+    same([peer.panel_refusal(G._replace(moment=moment)) for moment in (43_056, 43_057)], [0, 13])
+    same(peer.exact_failure(G), Fraction(6_740, 65))
+    same([peer.load_minute(panel) for panel in (G, falls(G, 65), G._replace(moment=0))], [103, 84, 138])
+    same([peer.depth_passes(RECOVERS, depth) for depth in (70, 71)], [False, True])
+    same([rule(150) for rule in (peer.gypsum_protection, peer.gypsum_insulation)], [3000, 2400])
+    same([rule(h) for h in (200, 400) for rule in (peer.wood_protection, peer.wood_insulation)], [3000, 1900, 6430, 5014])
+    same(peer.wood_insulation(300), 3351)
+    same([peer.ei_sum(panel) for panel in (G, crossed(20, 20, 20)._replace(boards=one().boards))], [9506, 5933])
+    same([peer.panel_refusal(one(thickness=thickness)) for thickness in (89, 90, 250, 251)], [8, 0, 0, 8])
+    same([peer.panel_refusal(with_first_lamella(G, ALONG, thickness)) for thickness in (99, 100)], [11, 0])
+    same(peer.card_text(peer.encode(G)), PRINTED)
+    same(peer.card_text(peer.encode(G._replace(moment=43_057))), b"REFUSED 13\n")
+    same([peer.card_call(peer.encode(G), space) for space in (105, 104)], [(0, 105), (14, 0)])
+
+
+def check_readings():
+    """The base records of the notes, by their numbers there."""
+    same(peer.ei_minute(of("001f0100640100f000000aef01000000004800960103000091010190000068")), 73)  # 1
+    same(peer.ei_sum(of("00230101410000f0000000030200000000480096504100b450030000a2010090000078")), 5999)  # 2
+    same(peer.ei_minute(of("001c0101320001900000000001000000004800960102010190000064")), 65)
+    panel = of("001f0101500000f0000001f4010000a02846007d640301007c00012c01012c")  # 3
+    same(peer.char(panel, 41), (Fraction(124, 10), ("fast", 3_740_000)))
+    same((peer.micrometres(panel, 60), peer.effective_tenths(panel, 60)), (40100, 471))
+    same(peer.micrometres(of("001f0101500000f0000001f4010001155846007d640301013600012c01012c"), 90), 58700)  # 4
+    same(peer.micrometres(of("00190100410000f0000001f40100002bc046005a6401010258"), 30), 19500)  # 5
+    panel = of("001f0101410000f0000001f4010000000041007d640301006400012c01012c")  # 6
+    same([peer.char(panel, minute)[1] for minute in (22, 29)], [("fast", 2_500_000), ("fast", 3_500_000)])
+    same(peer.char(of("00190100640100f0000000000100057e4046005a6401010064"), 15)[1], "settled")  # 7
+    for record, refusal in (("00150100410000f000000000000000000002010064", 10), ("00150100410000f000000000000000000102010064", 9),
+                            ("001c0100410000f000000000020000000058005a6441000964010100", 6)):  # 8
+        same(peer.card_text(bytes.fromhex(record)), b"REFUSED %d\n" % refusal)
+    panel = of("00190100500000f0000001f4010000ee4846007d6401010258")
+    same((peer.exact_failure(panel), peer.load_minute(panel)), (83, 83))
+    same((peer.exact_failure(G._replace(moment=42_000)), peer.load_minute(G._replace(moment=42_000))), (Fraction(48, 60), 0))
+    same((peer.exact_failure(G._replace(moment=43_056)), peer.load_minute(G._replace(moment=43_056))), (0, 0))
+
+
+def check_load_minutes(count):
+    for panel, _ in list(load_panels()) + list(reading_cases()):
+        peer.check_load_minute(panel)
+    rng = random.Random(1)
+    kinds = (random_records.random_panel, random_records.failing_about, random_records.failing_at_once, random_records.recovering)
+    for number in range(count):
+        peer.check_load_minute(kinds[number % len(kinds)](rng))
+
+
+if __name__ == "__main__":
+    check_document()
+    check_readings()
+    check_load_minutes(int(sys.argv[1]) if len(sys.argv) > 1 else 400)
+    print("the peer agrees")
