@@ -18,10 +18,11 @@ returns-2 c =
     let i = c .before .before .refusal-into in
     let n = c .before .before .before .before .before in
     let r = n .before .before .before .before in
-    let s = r .before .before .before .before in
-    (i .ensures .0,
-    refusal-printed (now (s .args .bytes)) (now (s .args .out)) (r .card .result) (r .card .last .1 .0) (r .card .ensures) (s .pre)
-    (n .n .given .0 .0) (take (i .result) (i .last .1 .0)) (n .n .given .1) (i .ensures .1))
+    let s = r .before .before .before .before in (
+      i .ensures .0,
+      refusal-printed (now (s .args .bytes)) (now (s .args .out)) (r .card .result) (r .card .last .1 .0) (r .card .ensures) (s .pre)
+          (n .n .given .0 .0) (take (i .result) (i .last .1 .0)) (n .n .given .1) (i .ensures .1),
+    )
 
 pub text-for-spec : {M : Type 1} → statement M
 text-for-spec =
