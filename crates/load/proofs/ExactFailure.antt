@@ -65,6 +65,7 @@ pub exact-failure : (p : Panel) (n q : ℕ) → T (failsRightAfter p n q) → Is
 unfolding failsRightAfter
 exact-failure p n q t =
     record {
+      whole = here .whole;
       notAbove = λ r s pos up d l. there .every d (le-trans l (tenths-later p r s n q pos (here .whole) up));
       last = λ r s pos later. record {
         over = n * s + r * q;

@@ -32,8 +32,9 @@ pub record AboveFailure (Passes : ℕ → ℕ → Type 0) (n q : ℕ) : Type 0 w
   pub earlier : over * q < n * under
   pub fails : Passes over under → ⊥
 
--- n/q is the failure time, "the upper end of the passing times": it is not above the failure time, and every later time is
+-- n/q, q not 0, is the failure time, "the upper end of the passing times": it is not above the failure time, and every later time is
 pub record IsFailureTime (Passes : ℕ → ℕ → Type 0) (n q : ℕ) : Type 0 where
+  pub whole : 0 < q
   pub notAbove : NotAboveFailure Passes n q
   pub last : (r s : ℕ) → 0 < s → n * s < r * q → AboveFailure Passes r s
 
