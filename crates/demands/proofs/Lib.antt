@@ -1,1 +1,2 @@
 pub mod LoadMinute
+pub mod Prints
