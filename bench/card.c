@@ -1,0 +1,332 @@
+/* The card in plain C, by the steps of the Rattle code, to compare their cost: the record is read and checked, the load minute is
+   found minute by minute with each tenth of mm tested once and its section worked out anew, what is the same at every minute is worked
+   out once, basic times come from tables and late layer times from halving, and the text is made aside and copied.
+   tables.h is written by run.py. */
+#include <stdbool.h>
+#include <string.h>
+
+#include "tables.h"
+#include "yurbantse.h"
+
+typedef struct {
+    uint8_t kind;
+    uint16_t thickness;
+    uint8_t joint;
+} Board;
+
+typedef struct {
+    uint8_t bond, rate, gap;
+    uint16_t strength;
+    uint32_t moment, failure_time;
+    size_t boards;
+    Board board[2];
+    size_t count;
+    uint8_t directions[9];
+    uint16_t thicknesses[9];
+} Panel;
+
+/* Times in thousandths of a minute, lengths in picometres. */
+typedef struct {
+    uint64_t start, failure, slow, plain, depth, end, back, full;
+} Fire;
+
+typedef struct {
+    uint64_t from, end, left, gained;
+} Place;
+
+typedef struct {
+    uint64_t n, p, q, lo, hi;
+} Section;
+
+static uint64_t smaller(uint64_t a, uint64_t b) { return a < b ? a : b; }
+
+static uint64_t larger(uint64_t a, uint64_t b) { return a < b ? b : a; }
+
+static uint64_t beyond(uint64_t a, uint64_t b) { return a < b ? 0 : a - b; }
+
+/* ---- the remaining section */
+
+static Section section_at(const Panel *p, uint64_t depth)
+{
+    Section s = {0, 0, 0, 0, 0};
+    uint64_t top = 0;
+    for (size_t i = 0; i < p->count; i++) {
+        uint64_t from = larger(depth, top), to = top + p->thicknesses[i];
+        if (p->directions[i] == 1 && from + 30 <= to) {
+            if (s.n == 0)
+                s.lo = from;
+            s.n += to - from;
+            s.p += to * to - from * from;
+            s.q += to * to * to - from * from * from;
+            s.hi = to;
+        }
+        top = to;
+    }
+    return s;
+}
+
+static bool depth_passes(const Panel *p, uint64_t depth)
+{
+    Section s = section_at(p, depth);
+    uint64_t e = larger(s.p - 2 * s.n * s.lo, 2 * s.n * s.hi - s.p);
+    uint64_t w = 4 * s.n * s.q - 3 * s.p * s.p;
+    return 0 < s.n && UINT64_C(120000) * p->moment * e <= UINT64_C(23) * p->strength * w;
+}
+
+/* ---- the record */
+
+static uint32_t number(const uint8_t *b, size_t width)
+{
+    uint32_t n = 0;
+    for (size_t i = 0; i < width; i++)
+        n = n << 8 | b[i];
+    return n;
+}
+
+static bool is_f(const Panel *p) { return p->boards > 0 && p->board[0].kind == 'F'; }
+
+static uint32_t charring_start(const Panel *p)
+{
+    if (p->boards == 0)
+        return 0;
+    uint32_t gain = 280 * p->board[0].thickness, loss = p->gap == 1 ? 23000 : 14000;
+    if (p->boards == 2)
+        gain += (p->board[1].kind == 'F' ? 224 : 140) * p->board[1].thickness;
+    return gain < loss ? 0 : gain - loss;
+}
+
+static bool known(uint8_t kind) { return kind == 'A' || kind == 'F' || kind == 'H'; }
+
+/* The refusal's number, or 0 and the panel. */
+static int read_record(const uint8_t *b, size_t length, Panel *p)
+{
+    if (length < 21 || 53 < length || number(b, 2) != length)
+        return 1;
+    if (b[2] != 1)
+        return 2;
+    p->bond = b[3];
+    p->rate = b[4];
+    p->gap = b[5];
+    p->strength = (uint16_t)number(b + 6, 2);
+    p->moment = number(b + 8, 4);
+    p->boards = b[12];
+    p->failure_time = number(b + 13, 4);
+    if (1 < p->bond || 1 < p->gap)
+        return 3;
+    if (p->rate < 50 || 100 < p->rate)
+        return 4;
+    if (p->strength < 1 || 400 < p->strength || 1000000 < p->moment)
+        return 5;
+    if (2 < p->boards || length < 21 + 4 * p->boards)
+        return 6;
+    const uint8_t *at = b + 17;
+    for (size_t i = 0; i < p->boards; i++, at += 4)
+        p->board[i] = (Board){at[0], (uint16_t)number(at + 1, 2), at[3]};
+    for (size_t i = 0; i < p->boards; i++)
+        if (!known(p->board[i].kind) || (p->board[i].kind == 'F') != (p->board[0].kind == 'F'))
+            return 7;
+    for (size_t i = 0; i < p->boards; i++)
+        if (p->board[i].thickness < 90 || 250 < p->board[i].thickness || p->board[i].joint < 1 || 100 < p->board[i].joint)
+            return 8;
+    if (is_f(p) ? p->failure_time < charring_start(p) || 360000 < p->failure_time : p->failure_time != 0)
+        return 9;
+    p->count = *at++;
+    if (p->count < 1 || 9 < p->count || length != 18 + 4 * p->boards + 3 * p->count)
+        return 10;
+    uint32_t sum = 0;
+    bool bad = false, along = false;
+    for (size_t i = 0; i < p->count; i++, at += 3) {
+        uint16_t thickness = (uint16_t)number(at + 1, 2);
+        p->directions[i] = at[0];
+        p->thicknesses[i] = thickness;
+        bad |= 1 < at[0] || thickness < 100 || 600 < thickness;
+        along |= at[0] == 1;
+        sum += thickness;
+    }
+    if (bad || 4000 < sum)
+        return 11;
+    if (!along)
+        return 12;
+    return depth_passes(p, 0) ? 0 : 13;
+}
+
+/* ---- charring */
+
+static Fire fire_of(const Panel *p)
+{
+    const uint64_t fast_run = UINT64_C(25000000000);
+    Fire f;
+    uint64_t k2 = p->boards == 0 ? 0 : 10000 - UINT64_C(18) * p->board[p->boards - 1].thickness, total = 0;
+    for (size_t i = 0; i < p->count; i++)
+        total += p->thicknesses[i];
+    f.start = charring_start(p);
+    f.failure = is_f(p) ? p->failure_time : f.start;
+    f.slow = k2 * p->rate;
+    f.plain = UINT64_C(10000) * p->rate;
+    f.depth = f.slow * (f.failure - f.start);
+    f.end = p->boards == 0 ? 0 : f.start == f.failure ? smaller(2 * f.plain * f.failure, fast_run) : fast_run;
+    f.back = 100000000 * total;
+    f.full = larger(20000, f.start);
+    return f;
+}
+
+static void cross(Place *s, uint64_t to)
+{
+    uint64_t fast = beyond(smaller(s->end, to), s->from), settled = beyond(to, larger(s->from, s->end));
+    s->gained += 2 * smaller(s->left, fast) + smaller(beyond(s->left, fast), 2 * settled);
+    s->left = beyond(beyond(s->left, fast), 2 * settled);
+    s->from = to;
+    s->end = to + UINT64_C(25000000000);
+}
+
+static uint64_t walk(const Panel *p, const Fire *f, uint64_t x)
+{
+    Place s = {f->depth, f->end, x, 0};
+    uint64_t line = 0;
+    for (size_t i = 0; i + 1 < p->count; i++) {
+        line += UINT64_C(100000000) * p->thicknesses[i];
+        if (p->bond == 1 && s.from <= line)
+            cross(&s, line);
+    }
+    cross(&s, f->back);
+    return s.gained;
+}
+
+/* In half picometres. */
+static uint64_t char_of(const Panel *p, const Fire *f, uint64_t time)
+{
+    uint64_t under = 2 * f->slow * smaller(beyond(time, f->start), f->failure - f->start);
+    uint64_t after = walk(p, f, 2 * f->plain * beyond(time, f->failure));
+    return smaller(under + after, 2 * f->back);
+}
+
+static uint32_t micrometres_in(const Panel *p, const Fire *f, uint64_t minute)
+{
+    return (uint32_t)((char_of(p, f, 1000 * minute) + 1999999) / 2000000);
+}
+
+static uint32_t tenths_in(const Panel *p, const Fire *f, uint64_t minute)
+{
+    uint64_t time = 1000 * minute, by = 200000000 * f->full;
+    uint64_t n = smaller(f->full * char_of(p, f, time) + UINT64_C(14000000000) * smaller(time, f->full), 2 * f->full * f->back);
+    return (uint32_t)((n + (by - 1)) / by);
+}
+
+/* ---- the load minute */
+
+static bool next_pass(const Panel *p, uint32_t depth, uint32_t to)
+{
+    while (depth < to)
+        if (!depth_passes(p, ++depth))
+            return false;
+    return true;
+}
+
+static uint32_t load_minute(const Panel *p, const Fire *f)
+{
+    uint32_t depth = tenths_in(p, f, 0);
+    for (uint32_t minute = 0; minute < 360; minute++) {
+        uint32_t next = tenths_in(p, f, minute + 1);
+        if (!next_pass(p, depth, next))
+            return minute;
+        depth = next;
+    }
+    return 360;
+}
+
+/* ---- layer times, in hundredths of a minute */
+
+static uint64_t late_time(uint64_t s, uint64_t t)
+{
+    uint64_t n = 0, past = t + 1;
+    while (n + 1 < past) {
+        uint64_t middle = n + (past - n) / 2;
+        if (4 * middle * middle * s <= t * t * t)
+            n = middle;
+        else
+            past = middle;
+    }
+    return n;
+}
+
+static uint64_t layer_time(uint64_t s, uint64_t t, uint64_t joint)
+{
+    return (2 * s <= t ? (5 * t - 3 * s) / 5 : late_time(s, t)) * joint / 100;
+}
+
+static uint32_t ei_minute(const Panel *p)
+{
+    uint64_t s = 0;
+    for (size_t i = 0; i < p->boards; i++)
+        s += layer_time(s, GYPSUM_PROTECTION[p->board[i].thickness - 90], p->board[i].joint);
+    for (size_t i = 0; i + 1 < p->count; i++)
+        s += layer_time(s, WOOD_PROTECTION[p->thicknesses[i] - 100], 100);
+    s += layer_time(s, WOOD_INSULATION[p->thicknesses[p->count - 1] - 100], 100);
+    return (uint32_t)smaller(s / 100, 360);
+}
+
+static uint32_t grade(uint32_t minute)
+{
+    static const uint16_t grades[] = {360, 240, 180, 120, 90, 60, 45, 30, 20, 15, 10};
+    for (size_t i = 0; i < sizeof grades / sizeof grades[0]; i++)
+        if (grades[i] <= minute)
+            return grades[i];
+    return 0;
+}
+
+/* ---- text */
+
+static uint8_t *put_field(uint8_t *at, uint32_t n)
+{
+    uint8_t digits[10];
+    size_t count = 0;
+    do {
+        digits[count++] = (uint8_t)('0' + n % 10);
+        n /= 10;
+    } while (n != 0);
+    *at++ = ' ';
+    while (count > 0)
+        *at++ = digits[--count];
+    return at;
+}
+
+static uint8_t *put_line(uint8_t *at, const char *head, const uint32_t *numbers, size_t count)
+{
+    while (*head != 0)
+        *at++ = (uint8_t)*head++;
+    for (size_t i = 0; i < count; i++)
+        at = put_field(at, numbers[i]);
+    *at++ = '\n';
+    return at;
+}
+
+static int32_t deliver(const uint8_t *text, size_t length, uint8_t *out, size_t out_length)
+{
+    if (out_length < length)
+        return -14;
+    memcpy(out, text, length);
+    return (int32_t)length;
+}
+
+int32_t yurbantse_card(const uint8_t *bytes, size_t bytes_length, uint8_t *out, size_t out_length)
+{
+    Panel p;
+    int refusal = read_record(bytes, bytes_length, &p);
+    if (refusal != 0)
+        return -refusal;
+    Fire f = fire_of(&p);
+    uint32_t load = load_minute(&p, &f), ei = ei_minute(&p);
+    uint8_t space[YURBANTSE_CARD_MOST], *at = put_line(space, "CARD", (uint32_t[]){1}, 1);
+    for (uint32_t minute = 30; minute <= 120; minute += 30)
+        at = put_line(at, "CHAR", (uint32_t[]){minute, micrometres_in(&p, &f, minute), tenths_in(&p, &f, minute)}, 3);
+    at = put_line(at, "R", (uint32_t[]){load, grade(load)}, 2);
+    at = put_line(at, "EI", (uint32_t[]){ei, grade(ei)}, 2);
+    at = put_line(at, "REI", (uint32_t[]){grade(load < ei ? load : ei)}, 1);
+    return deliver(space, (size_t)(at - space), out, out_length);
+}
+
+int32_t yurbantse_refusal(uint8_t n, uint8_t *out, size_t out_length)
+{
+    uint8_t space[19];
+    return deliver(space, (size_t)(put_line(space, "REFUSED", (uint32_t[]){n}, 1) - space), out, out_length);
+}

@@ -1,0 +1,109 @@
+"""run.py [REPOSITORY] [--panels N] [--seed S] [--cc COMPILER]
+
+What a card costs, in instructions counted by callgrind: the proved library (target/staticlib/libcard_c.a, by `rt staticlib card_c`) beside
+bench/card.c, the same steps in plain C at -O3. Both print the same cards for N random panels first. Of an input the cost is what two more
+passes over it take beyond one, so that start-up does not count. Ends with status 1 where the cards differ.
+"""
+import argparse
+import os
+import random
+import re
+import subprocess
+import sys
+
+HERE = os.path.dirname(os.path.abspath(__file__))
+sys.path.insert(0, os.path.join(HERE, "..", "peer"))
+
+import peer
+import random_records
+from peer import Panel
+
+
+def write_tables(path):
+    """The basic times that a card needs, by their rules."""
+    tables = (("GYPSUM_PROTECTION", peer.gypsum_protection, 90, 250), ("WOOD_PROTECTION", peer.wood_protection, 100, 600),
+              ("WOOD_INSULATION", peer.wood_insulation, 100, 600))
+    with open(path, "w") as file:
+        file.write("#include <stdint.h>\n")
+        for name, rule, low, high in tables:
+            times = ", ".join(str(rule(h)) for h in range(low, high + 1))
+            file.write(f"static const uint16_t {name}[] = {{{times}}};\n")
+
+
+def build(repository, folder, compiler):
+    """The program with each of the two cards."""
+    write_tables(os.path.join(folder, "tables.h"))
+    words = [compiler, "-O3", "-Wall", "-Wextra", f"-I{HERE}/../c", f"-I{folder}", f"{HERE}/bench.c"]
+    programs = {}
+    for name, card in (("Rattle", os.path.join(repository, "target/staticlib/libcard_c.a")), ("C", f"{HERE}/card.c")):
+        programs[name] = os.path.join(folder, f"bench_{name}")
+        subprocess.run(words + [card, "-o", programs[name]], check=True)
+    return programs
+
+
+def write_records(folder, panels):
+    path = os.path.join(folder, "records")
+    with open(path, "wb") as file:
+        for panel in panels:
+            record = peer.encode(panel)
+            file.write(bytes([len(record)]) + record)
+    return path
+
+
+def instructions(program, path, passes):
+    run = subprocess.run(["valgrind", "--tool=callgrind", "--callgrind-out-file=/dev/null", program, path, str(passes)],
+                         capture_output=True, text=True, check=True)
+    return int(re.search(r"Collected : (\d+)", run.stderr).group(1))
+
+
+def cost(program, path, count):
+    """Instructions for one of the records, on average."""
+    return (instructions(program, path, 3) - instructions(program, path, 1)) / (2 * count)
+
+
+def costs(programs, folder, panels):
+    path = write_records(folder, panels)
+    return {name: cost(program, path, len(panels)) for name, program in programs.items()}
+
+
+def row(word, both):
+    print(f"{word:>24} {both['Rattle']:>12,.0f} {both['C']:>12,.0f} {both['Rattle'] / both['C']:>8.2f}", flush=True)
+
+
+def plate(total, count):
+    """A panel of lamellae along, as equal as can be, that carries nothing: bare, at the greatest rate, with bonds that fall."""
+    parts = [total // count + (1 if i < total % count else 0) for i in range(count)]
+    return Panel(1, 100, 0, 240, 0, 0, (), tuple((1, part) for part in parts))
+
+
+def main():
+    words = argparse.ArgumentParser(description=__doc__, formatter_class=argparse.RawDescriptionHelpFormatter)
+    words.add_argument("repository", nargs="?", default=os.path.join(HERE, ".."))
+    words.add_argument("--panels", type=int, default=500)
+    words.add_argument("--seed", type=int, default=1)
+    words.add_argument("--cc", default="cc")
+    given = words.parse_args()
+    folder = os.path.join(given.repository, "target/bench")
+    os.makedirs(folder, exist_ok=True)
+    programs = build(given.repository, folder, given.cc)
+
+    kinds = {word: [kind(random.Random(f"{given.seed} {i}")) for i in range(given.panels)]
+             for word, kind in (("any panels", random_records.random_panel), ("failing at any minute", random_records.failing_about))}
+    for panels in kinds.values():
+        path = write_records(folder, panels)
+        said = [subprocess.run([program, path], capture_output=True, check=True).stdout for program in programs.values()]
+        if said[0] != said[1] or said[0].count(b"CARD 1\n") != len(panels):
+            sys.exit("the cards differ")
+    print(f"{2 * given.panels} cards, the same by both")
+    print(f"{'instructions per card':>24} {'Rattle':>12} {'C':>12} {'ratio':>8}")
+    for word, panels in kinds.items():
+        row(word, costs(programs, folder, panels))
+    for count in range(2, 10):
+        row(f"1,080 tenths, {count} lamellae", costs(programs, folder, [plate(1_080, count)]))
+    for total in (500, 1_000, 1_500, 2_000, 2_500, 3_000):
+        row(f"{total:,} tenths, 5 lamellae", costs(programs, folder, [plate(total, 5)]))
+    row("4,000 tenths, 9 lamellae", costs(programs, folder, [plate(4_000, 9)]))
+
+
+if __name__ == "__main__":
+    main()

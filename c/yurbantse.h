@@ -1,0 +1,44 @@
+/* The fire card for programs in C: the two functions of the proved crate card_c (target/staticlib/libcard_c.a, x86-64 Linux).
+
+   A record is the panel record of document 01: big-endian, 21 to 53 bytes. Lengths in it are in tenths of mm, the rate in hundredths
+   of mm/min, the strength in tenths of N/mm2, the moment in N·m per metre of width, the failure time in thousandths of a minute.
+
+   Any bytes may be given, and any space lent; both functions always return. The caller must see to what C cannot say:
+   - both pointers point to as many bytes as are named, and are not null, even where that is none;
+   - `out` shares no byte with `bytes`, and nothing else writes either before the call returns.
+   The functions keep nothing, allocate nothing and call only memcpy. Two threads may call them at once on different spaces. */
+#ifndef YURBANTSE_H
+#define YURBANTSE_H
+
+#include <stddef.h>
+#include <stdint.h>
+
+#ifdef __cplusplus
+extern "C" {
+#endif
+
+/* No card is longer. */
+#define YURBANTSE_CARD_MOST 232
+
+/* Writes the card of the record in `bytes` into `out`: lines of ASCII, each ending in a line feed, with no 0 after the last.
+   CHAR has the minute, the char depth in micrometres and the effective depth in tenths of mm; R and EI have minutes and grades.
+
+   Answers the number of bytes written; what `out` held after them stays. Or answers minus the number of the refusal, and `out` is as it
+   was, every byte of it:
+
+     -1 length          -4 rate               -7 board types     -10 lamella count                       -13 section: depth 0 fails
+     -2 version         -5 strength, moment   -8 board numbers   -11 lamella direction, thickness, sum   -14 `out` too short
+     -3 bond, gap       -6 board count        -9 failure time    -12 no lamella along
+
+   The first of these that fits is answered, so -14 only where the record is accepted. Space for exactly the card is enough. */
+int32_t yurbantse_card(const uint8_t *bytes, size_t bytes_length, uint8_t *out, size_t out_length);
+
+/* Writes the line `REFUSED n` with its line feed into `out` and answers its bytes, 10 to 12; or answers -14 where `out` is shorter than
+   that, and `out` is as it was. n is the number of a refusal without its sign. */
+int32_t yurbantse_refusal(uint8_t n, uint8_t *out, size_t out_length);
+
+#ifdef __cplusplus
+}
+#endif
+
+#endif

@@ -1,0 +1,34 @@
+-- The answers of the card's calls as numbers of 32 bits.
+use Prim.Native.Nat.{ℕ, zero, suc, _≤_, _<_}
+use mathlib.Core.Path.{_≡_, ap, subst, sym, _∙_}
+use mathlib.Core.List.{List}
+use native.Mathlib.Omega.{arith}
+use lib.IntN.{ℤ, pos, negℤ, _-ℤ_, +ℤ-idl}
+use lib.ListN.{length}
+use mir.Syntax.{w32}
+use mir.Val.{SFits, toZ}
+use mir.Facts.{toZ-pos}
+use Rattle.limits.specs.Lines.{answer}
+use Rattle.fire_card.specs.declared.CardAnswer.{CardAnswer}
+use Rattle.fire_card.specs.declared.CardAnswer.the-variants.{Written, Refused}
+use Rattle.card_c.specs.Exported.{Short}
+
+-- a text no longer than the longest card is answered by a short number
+pub short-text : (n : ℕ) (text : List ℕ) → length text ≤ 232 → Short (answer n Refused (Written (length text)))
+short-text zero text h = h
+short-text (suc n) text h = tt
+
+-- and so are its bytes
+pub short-bytes : (a : CardAnswer) (k : ℕ) → Short a → a ≡ Written k → k ≤ 232
+short-bytes a k h e = subst Short e h
+
+-- a refusal's number taken from 0, as the machine takes it
+pub bits-minus : (n : ℕ) → n < 256 → pos 0 -ℤ toZ w32 n ≡ negℤ (pos n)
+bits-minus n h = ap (λ (z : ℤ). pos 0 -ℤ z) (toZ-pos w32 {n = n} (omega arith)) ∙ +ℤ-idl (negℤ (pos n))
+
+minus-fits : (n : ℕ) → n < 256 → SFits w32 (negℤ (pos n))
+minus-fits zero h = record { sfits = omega arith }
+minus-fits (suc n) h = record { sfits = omega arith }
+
+pub bits-minus-fits : (n : ℕ) → n < 256 → SFits w32 (pos 0 -ℤ toZ w32 n)
+bits-minus-fits n h = subst (SFits w32) (sym (bits-minus n h)) (minus-fits n h)

@@ -1,0 +1,36 @@
+-- `card_c::yurbantse_refusal` meets its contract: the text of a refusal is no longer than 19 bytes. Assumes nothing.
+use Rattle.card_c.proofs.Numbers.{short-text}
+use Rattle.card_c.specs.Exported.{Short, exported}
+use Rattle.card_text.proofs.Lengths.{length-line}
+use Rattle.fire_card.specs.Answers.{textAnswer, shortLine}
+use Rattle.fire_card.specs.Card.{refusalHead, refusalText}
+use Rattle.limits.specs.Lines.{refusal}
+use borrow.Author.Needs.{needs}
+use denote.Ref.{now}
+use mathlib.Core.List.{List, [], _∷_}
+use mathlib.Core.Path.{sym, ap, subst, _∙_}
+use mir.Facts.{toZ-ofZ}
+use native.Mathlib.Omega.{arith}
+use Prim.Native.Nat.{ℕ}
+use Rattle.card_c.proofs.yurbantse_refusal.Statement.{statement}
+use Rattle.card_c.proofs.yurbantse_refusal.Tie as tie
+
+short : (n : ℕ) (space : List ℕ) → Short (textAnswer (refusalText n) space)
+unfolding textAnswer
+short n space =
+    let long = length-line refusalHead (n ∷ []) in
+    short-text (refusal (shortLine (refusalText n) space ∷ [])) (refusalText n) (omega (arith, long))
+
+number-of-requires : tie.Need-number-of-requires
+number-of-requires c κs =
+    let s = c .before .before .before .before .before .args in
+    subst Short (sym (c .before .before .refusal .ensures .0)) (short (s .n) (now (s .out)))
+
+returns : tie.Need-returns
+returns c =
+    let r = c .before .before .before .refusal in
+    (toZ-ofZ (record { sfits = c .number-of .ok }) ∙ c .number-of .ensures ∙ ap exported (r .ensures .0), r .ensures .1)
+
+pub yurbantse-refusal-spec : {M : Type 1} → statement M
+yurbantse-refusal-spec =
+    tie.close (tie.spec (λ c κs. search needs) number-of-requires (λ c. search needs) returns)

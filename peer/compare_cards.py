@@ -1,0 +1,117 @@
+"""compare_cards.py REPOSITORY [--records N] [--seed S] [--jobs J]
+
+Calls the proved functions as C does (target/staticlib/libcard_c.a, by `rt staticlib card_c`, made a shared object by cc) on N records and
+compares with peer.py: the card, the number answered, and every byte of the lent space. The records are in turn within the limits, failing
+at any minute, at once or after a recovery, at a limit, damaged, and with one byte changed, each place of the record in its turn; the first
+are all lengths from none to 128 bytes. The space is the longest card's, the very card's, or one byte less.
+Ends with status 1 at a disagreement, and prints the record.
+"""
+import argparse
+import ctypes
+import multiprocessing
+import os
+import random
+import subprocess
+import sys
+from collections import Counter
+
+import peer
+import random_records
+
+LONGEST = 232  # bytes of a card, at most
+LENGTHS = 129  # of records that are cut or filled up, from 0 on
+LONG = 53      # bytes of a record, at most
+
+
+def changed(rng, place):
+    """A record with one byte changed; places past its end count from its start again."""
+    record = bytearray(peer.encode(random_records.random_panel(rng)))
+    record[place % len(record)] = rng.choice([0, 1, 2, 255, rng.randrange(256), record[place % len(record)] ^ 1])
+    return bytes(record)
+
+
+def of_length(rng, length):
+    """A record cut or filled up to a length, with that length in its length field."""
+    record = peer.encode(random_records.random_panel(rng))
+    return random_records.with_length((record + rng.randbytes(length))[:length])[:length]
+
+
+KINDS = (
+    lambda rng, number: peer.encode(random_records.random_panel(rng)),
+    lambda rng, number: peer.encode(random_records.failing_about(rng)),
+    lambda rng, number: peer.encode(random_records.at_a_limit(rng, random_records.random_panel(rng))),
+    lambda rng, number: changed(rng, number // len(KINDS) % LONG),
+    lambda rng, number: peer.encode(random_records.failing_at_once(rng)),
+    lambda rng, number: random_records.damaged(rng, peer.encode(random_records.random_panel(rng))),
+    lambda rng, number: peer.encode(random_records.recovering(rng)),
+    lambda rng, number: random_records.random_record(rng),
+)
+
+
+def record_of(seed, number):
+    rng = random.Random(f"cards {seed} {number}")
+    return of_length(rng, number) if number < LENGTHS else KINDS[number % len(KINDS)](rng, number)
+
+
+def called(function, space, *words):
+    """What a function answers, and what it leaves in a lent space; beyond the space nothing may change."""
+    room = bytearray(range(1, LONGEST + 17))
+    out = (ctypes.c_ubyte * len(room)).from_buffer(room)
+    answer = function(*words, out, ctypes.c_size_t(space))
+    return answer, bytes(room)
+
+
+def expected(text, refusal, space):
+    room = bytes(range(1, LONGEST + 17))
+    if refusal or space < len(text):
+        return -(refusal or 14), room
+    return len(text), text + room[len(text):]
+
+
+def differs(library, seed, number):
+    """The refusal that peer.py says, and the record where the library says something else."""
+    record = record_of(seed, number)
+    refusal, panel = peer.decode(record)
+    card = b"" if refusal else peer.card(panel)
+    given = (ctypes.c_ubyte * len(record)).from_buffer_copy(record)
+    said = peer.refusal_text(refusal or number % 256)
+    agree = [called(library.yurbantse_card, space, given, ctypes.c_size_t(len(record))) == expected(card, refusal, space)
+             for space in {LONGEST, len(card), max(0, len(card) - 1)}]
+    agree += [called(library.yurbantse_refusal, space, ctypes.c_ubyte(refusal or number % 256)) == expected(said, 0, space)
+              for space in (LONGEST, len(said), len(said) - 1)]
+    return refusal, None if all(agree) else record.hex()
+
+
+def start(path, seed):
+    global library, seeded
+    library, seeded = ctypes.CDLL(path), seed
+
+
+def compared(number):
+    return differs(library, seeded, number)
+
+
+def main():
+    words = argparse.ArgumentParser(description=__doc__, formatter_class=argparse.RawDescriptionHelpFormatter)
+    words.add_argument("repository")
+    words.add_argument("--records", type=int, default=5000)
+    words.add_argument("--seed", type=int, default=1)
+    words.add_argument("--jobs", type=int, default=1)
+    given = words.parse_args()
+    folder = os.path.join(given.repository, "target/c")
+    os.makedirs(folder, exist_ok=True)
+    path = os.path.abspath(os.path.join(folder, "libcard_c.so"))
+    archive = os.path.join(given.repository, "target/staticlib/libcard_c.a")
+    subprocess.run(["cc", "-shared", "-o", path, "-Wl,--whole-archive", archive, "-Wl,--no-whole-archive"], check=True)
+    refusals = Counter()
+    with multiprocessing.Pool(given.jobs, start, (path, given.seed)) as pool:
+        for number, (refusal, wrong) in enumerate(pool.imap(compared, range(given.records), 50)):
+            if wrong is not None:
+                print(f"record {number} disagrees: {wrong}")
+                sys.exit(1)
+            refusals[refusal] += 1
+    print(f"{given.records} records agree: {refusals.pop(0, 0)} cards, refusals {dict(sorted(refusals.items()))}")
+
+
+if __name__ == "__main__":
+    main()
