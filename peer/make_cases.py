@@ -788,7 +788,7 @@ CASES = {"read": record_cases, "write": write_cases, "section": section_cases, "
          "loadgrade": grade_panel_cases, "eigrade": grade_panel_cases, "reigrade": grade_panel_cases}
 
 # the program that prints a card: what it reads
-CARD_INPUTS = {"card": g, "card_empty": b"", "card_long": g + bytes(200 - len(g)), "card_refused": peer.encode(G._replace(moment=43_057))}
+CARD_INPUTS = {"card": g, "card_empty": b"", "card_long": peer.encode(LONGEST) + bytes(1), "card_refused": peer.encode(G._replace(moment=43_057))}
 
 
 def store(repository, name, file, data):

@@ -1,4 +1,4 @@
-// The program `card`, held to what it prints for an input of 200 bytes that begins with a record.
+// The program `card`, held to what it prints for an input one byte longer than the longest record, which it begins with.
 fn main() {
     card_run::run();
 }

@@ -16,7 +16,8 @@ use Rattle.limits.specs.Causes.{badBoard, badBoards, badLamella, some}
 use Rattle.limits.specs.Refusals.{panelRefusal}
 use Rattle.numbers.proofs.Booleans.{or-none, in-range}
 use Rattle.limits.proofs.Accepted.{none-fits}
-use Rattle.charring.specs.Fires.{k2, startOf, failureOf}
+use Rattle.charring.specs.Fires.{startOf, failureOf}
+use Rattle.charring.proofs.DepthLaws.{k2-bound}
 use Rattle.charring.specs.Fits.{FireFits}
 use Rattle.numbers.proofs.Products.{times}
 
@@ -49,12 +50,6 @@ start-most gap (Two outer inner) e =
     sum : (h g l : ℕ) → h ≤ 250 → g ≤ 224 * 250 → 14000 ≤ l → 280 * h + g - l ≤ 112000
     sum h g l a b d = omega arith
 
-slow-factor : (c : Cladding) → k2 c ≤ 10000
-unfolding k2
-slow-factor Unclad = omega arith
-slow-factor (One b) = omega arith
-slow-factor (Two outer inner) = omega arith
-
 failure-within : (f : Bool) (start given : ℕ) → (f && outside start 360000 given) ≡ false → start ≤ 112000
     → (start ≤ pick f given start) × (pick f given start ≤ 360000)
 failure-within true start given e h = in-range start 360000 given e
@@ -76,7 +71,7 @@ fire-fits p e =
       start = start;
       failure = failure .1;
       order = failure .0;
-      slow = slow-factor (p .cladding);
+      slow = k2-bound (p .cladding);
       least = count .0;
       count = count .1;
       thick = ltb-false 4000 (thickness (lamellae p)) (or-none (some badLamella (lamellae p)) (ltb 4000 (thickness (lamellae p))) (boards .1 .1 .1 .0) .1);

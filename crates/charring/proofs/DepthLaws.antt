@@ -16,7 +16,7 @@ use Rattle.charring.proofs.Rounding.{up-across}
 
 -- Rates
 
-k2-bound : (c : Cladding) → k2 c ≤ 10000
+pub k2-bound : (c : Cladding) → k2 c ≤ 10000
 unfolding k2
 k2-bound Unclad = omega arith
 k2-bound (One b) = omega arith

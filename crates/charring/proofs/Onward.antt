@@ -8,18 +8,17 @@ use native.Mathlib.Nat.{one-mul}
 use native.Mathlib.Decide.{decLt}
 use native.Mathlib.Numerals.{add-one}
 use borrow.Author.Tests.{le-ltb, lt-ltb, leb-true, leb-false, ltb-true, ltb-false}
-use lib.ListN.{length, drop, getD}
-use lib.Seq.{drop-length}
+use lib.ListN.{drop, getD}
 use lib.Dec.{eqb, leb, ltb}
+use Rattle.numbers.proofs.Booleans.{and-left, and-right}
 use Rattle.panel.specs.declared.Panel.{Panel}
-use Rattle.panel.specs.Lamellae.{Lamella, lamella, lamellae, lamellaeOf, thickness}
-use Rattle.panel.proofs.Used.{length-lamellaeOf, thickness-more, thickness-prefix}
+use Rattle.panel.specs.Lamellae.{Lamella, lamellae, lamellaeOf, thickness}
 use Rattle.charring.specs.declared.Fire.{Fire}
 use Rattle.charring.specs.Fires.{tenth, backFace, linesFrom, bondLines, lineEnd}
 use Rattle.charring.specs.Stages.{Stretch, stretches, way, fastPart, settledPart}
 use Rattle.charring.specs.Phases.{phaseOn}
-use Rattle.charring.specs.Fits.{FireFits, FireOf, FireBounds, LineEnd, phaseIn}
-use Rattle.charring.proofs.Ways.{linesIf, to-line, past-line, rest-at, bond-lines, last-lines}
+use Rattle.charring.specs.Fits.{FireOf, FireBounds, LineEnd, phaseIn}
+use Rattle.charring.proofs.Ways.{linesIf, to-line, past-line, lamellaAt, rest-at, inner-at, last-at, no-line, next-ends, bond-lines}
 
 -- within a stretch
 in-stretch : (s : Stretch) (ss : List Stretch) (x : ℕ) → x < fastPart s + 2 * settledPart s
@@ -77,18 +76,10 @@ line-here : (p : Panel) (i line next : ℕ) → i + 1 < p .count → next ≡ li
     → linesIf b line (drop i (lamellae p)) ≡ next ∷ linesIf b next (drop (i + 1) (lamellae p))
 unfolding linesFrom
 line-here p i line next k e b t =
-    let gs = p .directions in
-    let ts = p .thicknesses in
-    let n = p .count in
-    let l = lamella (getD gs i 0) (getD ts i 0) in
-    let m = lamella (getD gs (suc i) 0) (getD ts (suc i) 0) in
-    let ls = drop (suc (suc i)) (lamellae p) in
-    let two : drop (suc i) (lamellae p) ≡ m ∷ ls = rest-at gs ts n (suc i) (omega arith) in
-    let one : drop i (lamellae p) ≡ l ∷ m ∷ ls = rest-at gs ts n i (omega arith) ∙ ap (λ (xs : List Lamella). l ∷ xs) two in
     rw (add-one i, t)
-    (ap (linesFrom line) one
-    ∙ ap (λ (y : ℕ). y ∷ linesFrom y (m ∷ ls)) (sym e)
-    ∙ ap (λ (xs : List Lamella). next ∷ linesFrom next xs) (sym two))
+    (ap (linesFrom line) (inner-at p i k)
+    ∙ ap (λ (y : ℕ). y ∷ linesFrom y (lamellaAt p (suc i) ∷ drop (suc (suc i)) (lamellae p))) (sym e)
+    ∙ ap (λ (ls : List Lamella). next ∷ linesFrom next ls) (sym (rest-at p (suc i) (omega arith))))
 
 -- where the run that starts there ends
 end-here : (p : Panel) (i next r : ℕ) → i < p .count → LineEnd next (p .thicknesses) i (p .count) r → (b : Bool) → b ≡ true
@@ -96,28 +87,9 @@ end-here : (p : Panel) (i next r : ℕ) → i < p .count → LineEnd next (p .th
 unfolding linesFrom lineEnd
 end-here p i next r k h b t = rw t (go (decLt (i + 1) (p .count)))
   where
-    gs : List ℕ
-    gs = p .directions
-
-    ts : List ℕ
-    ts = p .thicknesses
-
-    l : Lamella
-    l = lamella (getD gs i 0) (getD ts i 0)
-
-    m : Lamella
-    m = lamella (getD gs (suc i) 0) (getD ts (suc i) 0)
-
     go : Dec (i + 1 < p .count) → r ≡ lineEnd next (linesFrom next (drop i (lamellae p)))
-    go (yes y) =
-        let two : drop (suc i) (lamellae p) ≡ m ∷ drop (suc (suc i)) (lamellae p) = rest-at gs ts (p .count) (suc i) (omega arith) in
-        let one : drop i (lamellae p) ≡ l ∷ m ∷ drop (suc (suc i)) (lamellae p) = rest-at gs ts (p .count) i k ∙ ap (λ (xs : List Lamella). l ∷ xs) two in
-        h .inner y ∙ ap (λ (xs : List Lamella). lineEnd next (linesFrom next xs)) (sym one)
-    go (no y) =
-        let n-is : suc i ≡ length (lamellae p) = omega (arith, length-lamellaeOf gs ts (p .count)) in
-        let none : drop (suc i) (lamellae p) ≡ [] = ap (λ (j : ℕ). drop j (lamellae p)) n-is ∙ drop-length (lamellae p) in
-        let one : drop i (lamellae p) ≡ l ∷ [] = rest-at gs ts (p .count) i k ∙ ap (λ (xs : List Lamella). l ∷ xs) none in
-        h .last (omega arith) ∙ ap (λ (xs : List Lamella). lineEnd next (linesFrom next xs)) (sym one)
+    go (yes y) = h .inner y ∙ ap (λ (ls : List Lamella). lineEnd next (linesFrom next ls)) (sym (inner-at p i y))
+    go (no y) = h .last (omega arith) ∙ ap (λ (ls : List Lamella). lineEnd next (linesFrom next ls)) (sym (last-at p i (omega arith)))
 
 pub record Onward (p : Panel) (x i line from end left : ℕ) : Type 0 where
   pub ends : line ≡ tenth * thickness (lamellaeOf (p .directions) (p .thicknesses) i)
@@ -135,30 +107,8 @@ onward-start p f x o b h =
       same = rw (o .depth, o .end, bond-lines (eqb (p .bond) 1) (lamellae p));
     }
 
-pub onward-fits : (p : Panel) (x i line from end left : ℕ) → FireFits p → Onward p x i line from end left → i < p .count
-    → line + 100000000 * getD (p .thicknesses) i 0 ≤ 400000000000
-onward-fits p x i line from end left h w k =
-    omega (
-      arith,
-      w .ends,
-      h .thick,
-      thickness-more (p .directions) (p .thicknesses) i,
-      thickness-prefix (p .directions) (p .thicknesses) (suc i) (p .count) (omega arith),
-    )
-
-and-left : (a b : Bool) → (a && b) ≡ true → a ≡ true
-and-left true b e = refl
-and-left false b e = e
-
-and-right : (a b : Bool) → (a && b) ≡ true → b ≡ true
-and-right true b e = e
-and-right false b e = absurd (let z : _≡_ {A = ℕ} 0 1 = cc in let n : ⊥ = omega arith in n)
-
 module _ (p : Panel) (x i line from end left next : ℕ) (w : Onward p x i line from end left) (k : i + 1 < p .count)
     (e : next ≡ line + 100000000 * getD (p .thicknesses) i 0) where
-  next-ends : next ≡ tenth * thickness (lamellaeOf (p .directions) (p .thicknesses) (i + 1))
-  next-ends = rw (add-one i) (omega (arith, w .ends, thickness-more (p .directions) (p .thicknesses) i))
-
   -- a line that is still to come
   way-here : (eqb (p .bond) 1 && leb from next) ≡ true
       → stretches from end (linesIf (eqb (p .bond) 1) line (drop i (lamellae p))) (backFace p)
@@ -192,7 +142,7 @@ module _ (p : Panel) (x i line from end left next : ℕ) (w : Onward p x i line 
       let h′ : fastPart s + 2 * settledPart s ≤ left = rw (f, d) at h in
       let y′ : rest ≡ left - (fastPart s + 2 * settledPart s) = rw (f, d) at y in
       record {
-        ends = next-ends;
+        ends = next-ends p i (w .ends) e;
         endMost = omega (arith, z .most);
         leftMost = omega (arith, w .leftMost);
         same =
@@ -214,7 +164,7 @@ module _ (p : Panel) (x i line from end left next : ℕ) (w : Onward p x i line 
   pub onward-skip : (eqb (p .bond) 1 && leb from next) ≡ false → Onward p x (i + 1) next from end left
   onward-skip t =
       record {
-        ends = next-ends;
+        ends = next-ends p i (w .ends) e;
         endMost = w .endMost;
         leftMost = w .leftMost;
         same = ap (λ (ys : List Stretch). phaseOn ys left 1) (skip (eqb (p .bond) 1) refl t) ∙ w .same;
@@ -224,15 +174,7 @@ pub onward-last : (p : Panel) (x i line from end left fast back : ℕ) → Onwar
     → fast ≡ min end back - from → phaseIn (ltb left fast) end ≡ phaseOn (way p) x 1
 unfolding stretches
 onward-last p x i line from end left fast back w k e f =
-    let gs = p .directions in
-    let ts = p .thicknesses in
-    let n = p .count in
-    let l = lamella (getD gs i 0) (getD ts i 0) in
-    let n-is : suc i ≡ length (lamellae p) = omega (arith, length-lamellaeOf gs ts n) in
-    let none : drop (suc i) (lamellae p) ≡ [] = ap (λ (j : ℕ). drop j (lamellae p)) n-is ∙ drop-length (lamellae p) in
-    let one : drop i (lamellae p) ≡ l ∷ [] = rest-at gs ts n i (omega arith) ∙ ap (λ (xs : List Lamella). l ∷ xs) none in
-    let lines : linesIf (eqb (p .bond) 1) line (drop i (lamellae p)) ≡ [] = ap (linesIf (eqb (p .bond) 1) line) one ∙ last-lines (eqb (p .bond) 1) line l in
     ap (λ (y : ℕ). phaseIn (ltb left y) end) (f ∙ ap (λ (z : ℕ). min end z - from) e)
     ∙ in-last (record { from = from; end = end; to = backFace p }) left
-    ∙ ap (λ (xs : List ℕ). phaseOn (stretches from end xs (backFace p)) left 1) (sym lines)
+    ∙ ap (λ (lines : List ℕ). phaseOn (stretches from end lines (backFace p)) left 1) (sym (no-line p i line k))
     ∙ w .same

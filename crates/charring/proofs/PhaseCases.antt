@@ -173,24 +173,19 @@ where-on s ss x q =
     go a b f s r F S R (yes h) (yes k) = R k (r k)
 
 -- a way is fast or settled
-pub on-not-untouched : (ss : List Stretch) (x q : ℕ) → phaseOn ss x q ≡ Untouched → ⊥
+on-not : (f : Phase) → ((e : ℕ) → f ≡ Fast e → ⊥) → (f ≡ Settled → ⊥) → (ss : List Stretch) (x q : ℕ) → phaseOn ss x q ≡ f → ⊥
 unfolding phaseOn
-on-not-untouched [] x q e = untouched-not-settled (phaseOn [] x q) e refl
-on-not-untouched (s ∷ ss) x q e =
-    go (where-on s ss x q) (on-not-untouched ss (x - q * fastPart s - 2 * q * settledPart s) q)
+on-not f not-fast not-settled [] x q e = not-settled (sym e)
+on-not f not-fast not-settled (s ∷ ss) x q e =
+    go (where-on s ss x q) (on-not f not-fast not-settled ss (x - q * fastPart s - 2 * q * settledPart s) q)
   where
-    go : WhereOn s ss x q → (phaseOn ss (x - q * fastPart s - 2 * q * settledPart s) q ≡ Untouched → ⊥) → ⊥
-    go (fast h k) later = untouched-not-fast (phaseOn (s ∷ ss) x q) (s .end / 10000) e k
-    go (settled h l k) later = untouched-not-settled (phaseOn (s ∷ ss) x q) e k
+    go : WhereOn s ss x q → (phaseOn ss (x - q * fastPart s - 2 * q * settledPart s) q ≡ f → ⊥) → ⊥
+    go (fast h k) later = not-fast (s .end / 10000) (sym e ∙ k)
+    go (settled h l k) later = not-settled (sym e ∙ k)
     go (rest h k) later = later (sym k ∙ e)
 
+pub on-not-untouched : (ss : List Stretch) (x q : ℕ) → phaseOn ss x q ≡ Untouched → ⊥
+on-not-untouched = on-not Untouched (λ e. untouched-not-fast Untouched e refl) (untouched-not-settled Untouched refl)
+
 pub on-not-under : (ss : List Stretch) (x q : ℕ) → phaseOn ss x q ≡ UnderCladding → ⊥
-unfolding phaseOn
-on-not-under [] x q e = under-not-settled (phaseOn [] x q) e refl
-on-not-under (s ∷ ss) x q e =
-    go (where-on s ss x q) (on-not-under ss (x - q * fastPart s - 2 * q * settledPart s) q)
-  where
-    go : WhereOn s ss x q → (phaseOn ss (x - q * fastPart s - 2 * q * settledPart s) q ≡ UnderCladding → ⊥) → ⊥
-    go (fast h k) later = under-not-fast (phaseOn (s ∷ ss) x q) (s .end / 10000) e k
-    go (settled h l k) later = under-not-settled (phaseOn (s ∷ ss) x q) e k
-    go (rest h k) later = later (sym k ∙ e)
+on-not-under = on-not UnderCladding (λ e. under-not-fast UnderCladding e refl) (under-not-settled UnderCladding refl)

@@ -1,13 +1,10 @@
 -- What a phase says of the char depth: when it is untouched, what a fast phase's end means, and how fast the depth grows in each.
 use Prim.Native.Nat.{ℕ, zero, suc, _+_, _-_, _*_, _≤_, _<_, min}
-use mathlib.Core.Bool.{Bool, false}
 use mathlib.Core.Path.{_≡_, refl, sym, ap, _∙_}
 use native.Mathlib.Omega.{arith}
 use native.Mathlib.Decide.{decLe, decLt}
-use native.Mathlib.Nat.{mul-sub, mul-add, mul-le-mul-left, mul-le-mul-right, mul-pos, min-le-left, lt-of-mul-lt-mul-right}
-use Rattle.numbers.specs.Choice.{pick}
+use native.Mathlib.Nat.{le-trans, le-of-lt, lt-of-le-of-lt, mul-sub, mul-add, mul-le-mul-left, mul-le-mul-right, mul-pos, min-le-left, lt-of-mul-lt-mul-right}
 use Rattle.panel.specs.declared.Panel.{Panel}
-use Rattle.panel.specs.Boards.{typeF}
 use Rattle.panel.specs.Lamellae.{lamellae, thickness}
 use Rattle.charring.specs.declared.Phase.{Phase}
 use Rattle.charring.specs.declared.Phase.the-variants.{Untouched, UnderCladding, Fast, Settled}
@@ -21,11 +18,6 @@ use Rattle.charring.proofs.PhaseCases.{on-not-untouched, on-not-under}
 use Rattle.charring.proofs.WayLaws.{way-chain, charred-none, fast-before}
 use Rattle.charring.proofs.Runs.{reach, reached, fast-run, settled-run, on-scaled}
 use Rattle.charring.proofs.DepthLaws.{char-ramp, char-no-less}
-
--- "t_f = t_ch for A and H .. 0 unclad": there t_ch is not after t_f, as the laws below want
-pub same-times : (p : Panel) → typeF (p .cladding) ≡ false → failureOf p ≡ startOf p
-unfolding failureOf
-same-times p e = ap (λ (b : Bool). pick b (p .«failure_time») (startOf p)) e
 
 -- The parts of the char depth
 
@@ -85,6 +77,22 @@ under-full p n q h =
     turned : (r q t : ℕ) → 2 * r * (q * t) ≡ 2 * q * (r * t)
     turned r q t = omega arith
 
+-- the way is not at its end while the char is not at the back face
+pub way-not-over : (p : Panel) (n q : ℕ) → charAt p n q < 2 * q * backFace p → q * failureOf p ≤ 1000 * n
+    → 2 * plainRate p * (1000 * n - q * failureOf p) < reach (way p) q
+way-not-over p n q short late = go (decLe (reach (way p) q) (2 * plainRate p * (1000 * n - q * failureOf p)))
+  where
+    never : (b a g c u : ℕ) → b ≤ a + g → c ≡ u + g → u ≡ a → c < b → ⊥
+    never b a g c u h e f k = omega arith
+
+    go : Dec (reach (way p) q ≤ 2 * plainRate p * (1000 * n - q * failureOf p)) → 2 * plainRate p * (1000 * n - q * failureOf p) < reach (way p) q
+    go (no h) = omega arith
+    go (yes h) =
+        absurd
+        (never (2 * q * backFace p) (2 * q * depthAtFailure p) (afterAt p n q) (charAt p n q) (underAt p n q)
+        (reached (depthAtFailure p) (backFace p) (way p) (2 * plainRate p * (1000 * n - q * failureOf p)) q (way-chain p) h)
+        (char-parts p n q short) (under-full p n q late) short)
+
 -- Untouched
 
 -- untouched is before t_ch
@@ -102,10 +110,7 @@ untouched-only p n q e = go (where-at p n q)
 pub no-char : (p : Panel) (n q : ℕ) → startOf p ≤ failureOf p → 1000 * n ≤ q * startOf p → charAt p n q ≡ 0
 no-char p n q order h =
     let later : q * startOf p ≤ q * failureOf p = mul-le-mul-left q order in
-    omega (arith, char-most p n q, under-none p n q h, after-none p n q (through (1000 * n) (q * startOf p) (q * failureOf p) h later))
-  where
-    through : (a b c : ℕ) → a ≤ b → b ≤ c → a ≤ c
-    through a b c h k = omega arith
+    omega (arith, char-most p n q, under-none p n q h, after-none p n q (le-trans h later))
 
 -- and a panel with any thickness is untouched before t_ch
 pub untouched-before :
@@ -196,12 +201,9 @@ on-way-throughout p f n m q z order pos rate short past all low high =
     let same : P * (1000 * r - s * failureOf p) ≡ P * 1000 * z = scale P q (failureOf p) z in
     sym (on-scaled (way p) (P * 1000) z q k)
     ∙ ap (λ (x : ℕ). phaseOn (way p) x s) (sym same)
-    ∙ sym (at-way p r s short₁ (both (s * startOf p) (s * failureOf p) (1000 * r) start late) late)
+    ∙ sym (at-way p r s short₁ (le-trans start late) late)
     ∙ all r s here from to
   where
-    both : (a b c : ℕ) → a ≤ b → b ≤ c → a ≤ c
-    both a b c h k = omega arith
-
     since : (P N G n q z : ℕ) → G ≤ N → P * (N - G) ≤ z → N ≡ 1000 * n → n * (P * 1000 * q) ≤ (z + P * G) * q
     since P N G n q z h l e =
         let a : P * N - P * G ≤ z = rw (mul-sub P N G) at l in
@@ -274,10 +276,7 @@ at-end p f n m q pos h all = all m q pos (mul-le-mul-right q h) (omega arith)
 
 -- short of the back face at the last time, so at the first
 short-before : (p : Panel) (n m q : ℕ) → n ≤ m → charAt p m q < 2 * q * backFace p → charAt p n q < 2 * q * backFace p
-short-before p n m q h k = through (charAt p n q) (charAt p m q) (2 * q * backFace p) (char-ramp p .rises n m q h) k
-  where
-    through : (a b c : ℕ) → a ≤ b → b < c → a < c
-    through a b c h k = omega arith
+short-before p n m q h k = lt-of-le-of-lt (char-ramp p .rises n m q h) k
 
 -- x at two times
 base-rises : (p : Panel) (n m q : ℕ) → n ≤ m → 2 * plainRate p * (1000 * n - q * failureOf p) ≤ 2 * plainRate p * (1000 * m - q * failureOf p)
@@ -327,22 +326,6 @@ module _
     grows-settled : Throughout p Settled n m q → charAt p m q ≡ charAt p n q + 2000 * plainRate p * (m - n)
     grows-settled all = go (decLt 0 (plainRate p))
       where
-        -- the way is not at its end, since the char is not at the back face
-        within :
-            q * failureOf p ≤ 1000 * n → Dec (reach (way p) q ≤ 2 * plainRate p * (1000 * m - q * failureOf p))
-            → 2 * plainRate p * (1000 * m - q * failureOf p) ≤ reach (way p) q
-        within past (no h) = omega arith
-        within past (yes h) =
-            let late : q * failureOf p ≤ 1000 * m = omega arith in
-            let far : 2 * q * backFace p ≤ 2 * q * depthAtFailure p + afterAt p m q =
-            reached (depthAtFailure p) (backFace p) (way p) (2 * plainRate p * (1000 * m - q * failureOf p)) q (way-chain p) h in
-            absurd
-            (never (2 * q * backFace p) (2 * q * depthAtFailure p) (afterAt p m q) (charAt p m q) (underAt p m q) far (char-parts p m q short)
-            (under-full p m q late) short)
-          where
-            never : (b a g c u : ℕ) → b ≤ a + g → c ≡ u + g → u ≡ a → c < b → ⊥
-            never b a g c u h e f k = omega arith
-
         go : Dec (0 < plainRate p) → charAt p m q ≡ charAt p n q + 2000 * plainRate p * (m - n)
         go (no k) = no-rate p 2000 n m q (omega arith) le
         go (yes k) =
@@ -353,7 +336,7 @@ module _
             let y : ℕ = 2 * plainRate p * (1000 * m - q * failureOf p) in
             way-step p 1 2000 n m q refl le past short₀ short
             (settled-run (way p) (2 * plainRate p * (1000 * n - q * failureOf p)) y q (base-rises p n m q le)
-            (within past (decLe (reach (way p) q) y))
+            (le-of-lt (way-not-over p m q short (let late : q * failureOf p ≤ 1000 * m = omega arith in late)))
             (λ z l u. on-way-throughout p Settled n m q z order pos k short past all l u))
 
 -- in each phase the depth grows at that phase's rate

@@ -15,7 +15,9 @@ use Rattle.panel.specs.declared.Panel.{Panel}
 use Rattle.limits.specs.Lines.{line}
 use Rattle.limits.specs.Refusals.{panelLines, panelRefusal}
 use Rattle.limits.proofs.Accepted.{none-fits}
-use Rattle.limits.proofs.FirstLine.{first-none, none-first, none-left, said, unsaid, refused, answered}
+use Rattle.limits.proofs.FirstLine.{first-none, none-first, none-left, said, unsaid, answered, turned-back}
+use Rattle.charring.specs.Fits.{FireFits}
+use Rattle.charring.proofs.Accepted.{fire-fits}
 use Rattle.charring.specs.declared.TableAnswer.the-variants.{Filled, Refused}
 use Rattle.charring.specs.Answers.{minuteRefusal, depthTable, tableRefusal, tableAnswer, tableAfter}
 
@@ -38,6 +40,12 @@ minute-taken p minute e =
       none-first (panelLines p) (none-left (panelLines p) late h) 0,
       ltb-false 360 minute (h .1 .1 .1 .1 .1 .1 .1 .1 .1 .1 .0),
     )
+
+-- and its depths at the minute fit
+pub minute-fits : (p : Panel) (minute : ℕ) {n : ℕ} → n ≡ minuteRefusal p minute → n ≡ 0 → FireFits p × (minute ≤ 360)
+minute-fits p minute e z =
+    let h = minute-taken p minute (sym e ∙ z) in
+    (fire-fits p (h .0), h .1)
 
 -- The table
 
@@ -69,10 +77,7 @@ pub table-turned :
     → (Refused n ≡ tableAnswer p space) × (space ≡ tableAfter p space)
 unfolding tableAnswer tableAfter
 table-turned p space n e ne =
-    let ne′ : tableRefusal p space ≡ 0 → ⊥ = λ z. ne (e ∙ z) in (
-      ap Refused e ∙ refused (tableRefusal p space) Refused Filled ne′,
-      refused (tableRefusal p space) (λ (k : ℕ). space) (depthTable p ++ drop 361 space) ne′,
-    )
+    (turned-back Refused Filled e ne, turned-back (λ (k : ℕ). space) (depthTable p ++ drop 361 space) e ne)
 
 pub table-filled :
     (p : Panel) (space after : List ℕ) → panelRefusal p ≡ 0 → 361 ≤ length space → after ≡ depthTable p ++ drop 361 space

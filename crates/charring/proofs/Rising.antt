@@ -4,7 +4,7 @@ use Prim.Native.Nat.{ℕ, suc, _+_, _-_, _*_, _≤_, _<_, min}
 use mathlib.Core.Path.{_≡_, ap, _∙_}
 use mathlib.Core.List.{List, [], _∷_}
 use native.Mathlib.Omega.{arith}
-use native.Mathlib.Decide.{decLe, decLt}
+use native.Mathlib.Decide.{decLt}
 use native.Mathlib.Nat.{mul-comm, mul-pos, mul-le-mul-left, mul-lt-mul-of-pos-left, lt-of-mul-lt-mul-left, lt-of-mul-lt-mul-right, lt-of-lt-of-le}
 use Rattle.panel.specs.declared.Panel.{Panel}
 use Rattle.panel.specs.Lamellae.{lamellae, thickness}
@@ -13,9 +13,8 @@ use Rattle.charring.specs.Stages.{Stretch, way, charred, fastPart, settl
 use Rattle.charring.specs.Depths.{underAt, afterAt, charAt, fullAt, effectiveAt, tenthsAt}
 use Rattle.charring.proofs.Rounding.{up-covers}
 use Rattle.charring.proofs.WayRamps.{charred-ramp}
-use Rattle.charring.proofs.WayLaws.{way-chain}
-use Rattle.charring.proofs.Runs.{reach, reached}
-use Rattle.charring.proofs.PhaseLaws.{char-parts, under-full}
+use Rattle.charring.proofs.Runs.{reach}
+use Rattle.charring.proofs.PhaseLaws.{char-parts, under-full, way-not-over}
 use Rattle.charring.proofs.DepthLaws.{effective-ramp, full-positive, unit-positive}
 use Rattle.charring.proofs.DepthBounds.{char-effective}
 
@@ -55,20 +54,9 @@ module _ (p : Panel) (n m q : ℕ) (rate : 0 < rateOf p) (past : q * failureOf p
       x : ℕ
       x = 2 * plainRate p * (1000 * n - q * failureOf p)
 
-      -- the way is not at its end, since the char is not at the back face
-      within : Dec (reach (way p) q ≤ x) → x < reach (way p) q
-      within (no h) = omega arith
-      within (yes h) =
-          absurd
-          (never (2 * q * backFace p) (2 * q * depthAtFailure p) (afterAt p n q) (charAt p n q) (underAt p n q)
-          (reached (depthAtFailure p) (backFace p) (way p) x q (way-chain p) h) (char-parts p n q short) (under-full p n q past) short)
-        where
-          never : (b a g c u : ℕ) → b ≤ a + g → c ≡ u + g → u ≡ a → c < b → ⊥
-          never b a g c u h e f k = omega arith
-
       after-rises : afterAt p n q < afterAt p m q
       after-rises =
-          charred-rises (way p) x (2 * plainRate p * (1000 * m - q * failureOf p)) q (within (decLe (reach (way p) q) x))
+          charred-rises (way p) x (2 * plainRate p * (1000 * m - q * failureOf p)) q (way-not-over p n q short past)
           (mul-lt-mul-of-pos-left (let h : 1000 * n - q * failureOf p < 1000 * m - q * failureOf p = omega arith in h)
           (let h : 0 < 2 * plainRate p = omega arith in h))
 

@@ -58,32 +58,29 @@ unfoldable pub reach : List Stretch → ℕ → ℕ
 reach [] q = 0
 reach (s ∷ ss) q = q * fastPart s + 2 * q * settledPart s + reach ss q
 
+past-first : (a b c x : ℕ) → a + b + c ≤ x → a + b ≤ x
+past-first a b c x h = omega arith
+
 -- past that, the char has come to the back face
 pub reached : (a back : ℕ) (ss : List Stretch) (x q : ℕ) → Chain a back ss → reach ss q ≤ x → 2 * q * back ≤ 2 * q * a + charred ss x q
 unfolding reach
 reached a back (s ∷ []) x q (last from to exact) h =
-    rw (charred-past s [] x q (here (q * fastPart s) (2 * q * settledPart s) 0 x h))
+    rw (charred-past s [] x q (past-first (q * fastPart s) (2 * q * settledPart s) 0 x h))
     (numbers q a (s .from) (fastPart s) (settledPart s) (s .to) back
     (charred [] (x - q * fastPart s - 2 * q * settledPart s) q) from to (parts-cover s))
   where
-    here : (a b c x : ℕ) → a + b + c ≤ x → a + b ≤ x
-    here a b c x h = omega arith
-
     numbers :
         (q a b f t d back g : ℕ) → b ≡ a → d ≡ back → d ≤ b + f + t → 2 * q * back ≤ 2 * q * a + (2 * q * f + 2 * q * t + g)
     numbers q a b f t d back g e k h =
         let l : q * back ≤ q * (a + f + t) = mul-le-mul-left q (let z : back ≤ a + f + t = omega arith in z) in
         omega arith
 reached a back (s ∷ ss) x q (next from deeper exact c) h =
-    rw (charred-past s ss x q (here (q * fastPart s) (2 * q * settledPart s) (reach ss q) x h))
+    rw (charred-past s ss x q (past-first (q * fastPart s) (2 * q * settledPart s) (reach ss q) x h))
     (numbers q a (s .from) (fastPart s) (settledPart s) (s .to) (2 * q * back)
     (charred ss (x - q * fastPart s - 2 * q * settledPart s) q) from (parts s deeper)
     (reached (s .to) back ss (x - q * fastPart s - 2 * q * settledPart s) q c
     (there (q * fastPart s) (2 * q * settledPart s) (reach ss q) x h)))
   where
-    here : (a b c x : ℕ) → a + b + c ≤ x → a + b ≤ x
-    here a b c x h = omega arith
-
     there : (a b c x : ℕ) → a + b + c ≤ x → c ≤ x - a - b
     there a b c x h = omega arith
 
@@ -119,6 +116,10 @@ from-past x z a b h = omega arith
 to-past : (y z a b : ℕ) → z < y - a - b → z + (a + b) < y
 to-past y z a b h = omega arith
 
+-- the two ways to write what a settled part takes
+twice-settled : (q t : ℕ) → 2 * q * t ≡ q * (2 * t)
+twice-settled q t = omega arith
+
 -- a settled part takes nothing of a step that meets none of it
 still : (x y a b : ℕ) → x ≤ y → (max x a < min y (a + b) → ⊥) → min (y - a) b ≡ min (x - a) b
 still x y a b h never = go (decLt (max x a) (min y (a + b)))
@@ -147,7 +148,7 @@ fast-run [] x y q h never = go (decLt x y)
 fast-run (s ∷ ss) x y q h never =
     let a : ℕ = q * fastPart s in
     let b : ℕ = q * (2 * settledPart s) in
-    let same : 2 * q * settledPart s ≡ b = turned q (settledPart s) in
+    let same : 2 * q * settledPart s ≡ b = twice-settled q (settledPart s) in
     let later : charred ss (y - a - b) q ≡ charred ss (x - a - b) q + 2 * (y - a - b - (x - a - b)) =
     fast-run ss (x - a - b) (y - a - b) q (past-both x y a b h)
     (λ z l u f.
@@ -163,9 +164,6 @@ fast-run (s ∷ ss) x y q h never =
     (stage-past 1 2 (2 * settledPart s) (charred ss) (x - a) (y - a) q (past-one x y a h) empty later)
     ∙ ap (λ (k : ℕ). k + 2 * (y - x)) (sym (charred-stages s ss x q))
   where
-    turned : (q t : ℕ) → 2 * q * t ≡ q * (2 * t)
-    turned q t = omega arith
-
     first : (x a : ℕ) → x ≤ max x a
     first x a = omega arith
 
@@ -189,7 +187,7 @@ settled-run [] x y q h within always = omega (arith, charred-empty x q, charred-
 settled-run (s ∷ ss) x y q h within always =
     let a : ℕ = q * fastPart s in
     let b : ℕ = q * (2 * settledPart s) in
-    let same : 2 * q * settledPart s ≡ b = turned q (settledPart s) in
+    let same : 2 * q * settledPart s ≡ b = twice-settled q (settledPart s) in
     let later : charred ss (y - a - b) q ≡ charred ss (x - a - b) q + 1 * (y - a - b - (x - a - b)) =
     settled-run ss (x - a - b) (y - a - b) q (past-both x y a b h) (short a b y (reach ss q) (rw same at within))
     (λ z l u.
@@ -202,9 +200,6 @@ settled-run (s ∷ ss) x y q h within always =
     (stage-along 1 (2 * settledPart s) (charred ss) (x - a) (y - a) q (past-one x y a h) later)
     ∙ ap (λ (k : ℕ). k + 1 * (y - x)) (sym (charred-stages s ss x q))
   where
-    turned : (q t : ℕ) → 2 * q * t ≡ q * (2 * t)
-    turned q t = omega arith
-
     short : (a b y c : ℕ) → y ≤ a + b + c → y - a - b ≤ c
     short a b y c h = omega arith
 

@@ -93,13 +93,52 @@ pass-keeps true s r top line l m ls back e h = rw (← e) (go (leb (s .from) lin
 
 -- The walk over a panel's arrays
 
+abbrev pub lamellaAt : Panel → ℕ → Lamella
+lamellaAt p i = lamella (getD (p .directions) i 0) (getD (p .thicknesses) i 0)
+
 -- the lamellae from lamella i on
-pub rest-at : (gs ts : List ℕ) (n i : ℕ) → i < n
-    → drop i (lamellaeOf gs ts n) ≡ lamella (getD gs i 0) (getD ts i 0) ∷ drop (suc i) (lamellaeOf gs ts n)
+pub rest-at : (p : Panel) (i : ℕ) → i < p .count → drop i (lamellae p) ≡ lamellaAt p i ∷ drop (suc i) (lamellae p)
 unfolding lamellaeOf
-rest-at gs ts n i h =
-    drop-cons (lamellaeOf gs ts n) i (lamella 0 0) (omega (arith, length-lamellaeOf gs ts n))
-    ∙ ap (λ (l : Lamella). l ∷ drop (suc i) (lamellaeOf gs ts n)) (getD-firsts (λ (j : ℕ). lamella (getD gs j 0) (getD ts j 0)) n i (lamella 0 0) h)
+rest-at p i h =
+    drop-cons (lamellae p) i (lamella 0 0) (omega (arith, length-lamellaeOf (p .directions) (p .thicknesses) (p .count)))
+    ∙ ap (λ (l : Lamella). l ∷ drop (suc i) (lamellae p)) (getD-firsts (lamellaAt p) (p .count) i (lamella 0 0) h)
+
+-- where one more follows
+pub inner-at : (p : Panel) (i : ℕ) → i + 1 < p .count
+    → drop i (lamellae p) ≡ lamellaAt p i ∷ lamellaAt p (suc i) ∷ drop (suc (suc i)) (lamellae p)
+inner-at p i h = rest-at p i (omega arith) ∙ ap (λ (ls : List Lamella). lamellaAt p i ∷ ls) (rest-at p (suc i) (omega arith))
+
+-- and where it is the last
+pub last-at : (p : Panel) (i : ℕ) → i + 1 ≡ p .count → drop i (lamellae p) ≡ lamellaAt p i ∷ []
+last-at p i h =
+    let e : suc i ≡ length (lamellae p) = omega (arith, length-lamellaeOf (p .directions) (p .thicknesses) (p .count)) in
+    rest-at p i (omega arith)
+    ∙ ap (λ (ls : List Lamella). lamellaAt p i ∷ ls) (ap (λ (j : ℕ). drop j (lamellae p)) e ∙ drop-length (lamellae p))
+
+-- behind the last line there is only the back face
+pub no-line : (p : Panel) (i line : ℕ) → i + 1 ≡ p .count → linesIf (eqb (p .bond) 1) line (drop i (lamellae p)) ≡ []
+unfolding linesFrom
+no-line p i line h = ap (linesIf (eqb (p .bond) 1) line) (last-at p i h) ∙ go (eqb (p .bond) 1)
+  where
+    go : (falls : Bool) → linesIf falls line (lamellaAt p i ∷ []) ≡ []
+    go true = refl
+    go false = refl
+
+-- the line below lamella i, whose top is at `line`
+pub next-ends : (p : Panel) (i : ℕ) {line next : ℕ} → line ≡ tenth * thickness (lamellaeOf (p .directions) (p .thicknesses) i)
+    → next ≡ line + 100000000 * getD (p .thicknesses) i 0 → next ≡ tenth * thickness (lamellaeOf (p .directions) (p .thicknesses) (i + 1))
+next-ends p i e f = rw (add-one i) (omega (arith, thickness-more (p .directions) (p .thicknesses) i))
+
+-- it lies in the panel
+pub line-within : (p : Panel) (i : ℕ) {line : ℕ} → FireFits p → line ≡ tenth * thickness (lamellaeOf (p .directions) (p .thicknesses) i)
+    → i < p .count → line + 100000000 * getD (p .thicknesses) i 0 ≤ 400000000000
+line-within p i h e k =
+    omega (
+      arith,
+      h .thick,
+      thickness-more (p .directions) (p .thicknesses) i,
+      thickness-prefix (p .directions) (p .thicknesses) (suc i) (p .count) (omega arith),
+    )
 
 pub bond-lines : (b : Bool) (ls : List Lamella) → elim b [ true ↦ linesFrom 0 ls | false ↦ [] ] ≡ linesIf b 0 ls
 bond-lines true ls = refl
@@ -124,58 +163,24 @@ walk-start p f x o b h =
     zero-first : (y : ℕ) → 0 + y ≡ y
     zero-first y = omega arith
 
--- the next line lies in the panel
-pub walk-fits : (p : Panel) (x i line : ℕ) (s : Place) → FireFits p → Walked p x i line s → i < p .count
-    → line + 100000000 * getD (p .thicknesses) i 0 ≤ 400000000000
-walk-fits p x i line s h w k =
-    omega (
-      arith,
-      w .ends,
-      h .thick,
-      thickness-more (p .directions) (p .thicknesses) i,
-      thickness-prefix (p .directions) (p .thicknesses) (suc i) (p .count) (omega arith),
-    )
-
 pub walk-more : (p : Panel) (x i line next : ℕ) (s r : Place) → Walked p x i line s → i + 1 < p .count
     → next ≡ line + 100000000 * getD (p .thicknesses) i 0 → Passed (eqb (p .bond) 1) s next r → Walked p x (i + 1) next r
 walk-more p x i line next s r w k e h =
-    let gs = p .directions in
-    let ts = p .thicknesses in
-    let n = p .count in
-    let l = lamella (getD gs i 0) (getD ts i 0) in
-    let m = lamella (getD gs (suc i) 0) (getD ts (suc i) 0) in
-    let ls = drop (suc (suc i)) (lamellae p) in
-    let two : drop (suc i) (lamellae p) ≡ m ∷ ls = rest-at gs ts n (suc i) (omega arith) in
-    let one : drop i (lamellae p) ≡ l ∷ m ∷ ls = rest-at gs ts n i (omega arith) ∙ ap (λ (xs : List Lamella). l ∷ xs) two in
-    rw (add-one i)
     record {
-      ends = omega (arith, w .ends, thickness-more gs ts i);
+      ends = next-ends p i (w .ends) e;
       bounds = h .bounds;
       same =
-          ap (λ (xs : List Lamella). comes r (linesIf (eqb (p .bond) 1) next xs) (backFace p)) two
-          ∙ pass-keeps (eqb (p .bond) 1) s r line next l m ls (backFace p) e h
-          ∙ ap (λ (xs : List Lamella). comes s (linesIf (eqb (p .bond) 1) line xs) (backFace p)) (sym one)
-          ∙ w .same;
+          rw (add-one i)
+          (ap (λ (ls : List Lamella). comes r (linesIf (eqb (p .bond) 1) next ls) (backFace p)) (rest-at p (suc i) (omega arith))
+          ∙ pass-keeps (eqb (p .bond) 1) s r line next (lamellaAt p i) (lamellaAt p (suc i)) (drop (suc (suc i)) (lamellae p)) (backFace p) e h
+          ∙ ap (λ (ls : List Lamella). comes s (linesIf (eqb (p .bond) 1) line ls) (backFace p)) (sym (inner-at p i k))
+          ∙ w .same);
     }
-
--- behind the last line there is only the back face
-pub last-lines : (falls : Bool) (top : ℕ) (l : Lamella) → linesIf falls top (l ∷ []) ≡ []
-unfolding linesFrom
-last-lines true top l = refl
-last-lines false top l = refl
 
 pub walk-end : (p : Panel) (x i line back : ℕ) (s r : Place) → Walked p x i line s → i + 1 ≡ p .count → back ≡ backFace p
     → Crossed s back r → r .gained ≡ charred (way p) x 1
 walk-end p x i line back s r w k e h =
-    let gs = p .directions in
-    let ts = p .thicknesses in
-    let n = p .count in
-    let l = lamella (getD gs i 0) (getD ts i 0) in
-    let n-is : suc i ≡ length (lamellae p) = omega (arith, length-lamellaeOf gs ts n) in
-    let none : drop (suc i) (lamellae p) ≡ [] = ap (λ (j : ℕ). drop j (lamellae p)) n-is ∙ drop-length (lamellae p) in
-    let one : drop i (lamellae p) ≡ l ∷ [] = rest-at gs ts n i (omega arith) ∙ ap (λ (xs : List Lamella). l ∷ xs) none in
-    let lines : linesIf (eqb (p .bond) 1) line (drop i (lamellae p)) ≡ [] = ap (linesIf (eqb (p .bond) 1) line) one ∙ last-lines (eqb (p .bond) 1) line l in
     cross-last s r back h
     ∙ ap (comes s []) e
-    ∙ ap (λ (xs : List ℕ). comes s xs (backFace p)) (sym lines)
+    ∙ ap (λ (lines : List ℕ). comes s lines (backFace p)) (sym (no-line p i line k))
     ∙ w .same

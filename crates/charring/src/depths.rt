@@ -5,7 +5,7 @@ use numbers::natural::beyond;
 use numbers::natural::smaller;
 use panel::Panel;
 ghost use mathlib.Core.Path.{_≡_};
-ghost use Prim.Native.Nat.{_+_, _-_, _*_, _/_, _≤_, min};
+ghost use Prim.Native.Nat.{_+_, _*_, _≤_, min};
 ghost use Rattle.charring.specs.Fires.{tenth};
 ghost use Rattle.charring.specs.Depths.{micrometresAt, tenthsAt, roundUp};
 ghost use Rattle.charring.specs.Fits.{FireFits, FireOf, FireBounds, CharOf};

@@ -15,7 +15,6 @@ ghost use mathlib.Core.Path.{_≡_};
 ghost use Prim.Native.Nat.{_-_, _*_, _≤_, min};
 ghost use lib.Dec.{eqb};
 ghost use Rattle.numbers.specs.Choice.{pick};
-ghost use Rattle.panel.specs.Lamellae.{thickness};
 ghost use Rattle.charring.specs.Fires.{fastRun, startOf, failureOf, k2, clad};
 ghost use Rattle.charring.specs.Fits.{FireFits, FireOf, FireBounds};
 

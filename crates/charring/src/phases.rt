@@ -11,7 +11,7 @@ use numbers::natural::smaller;
 use numbers::natural::wide;
 use panel::Panel;
 ghost use mathlib.Core.Path.{_≡_};
-ghost use Prim.Native.Nat.{_+_, _*_, _≤_, _<_};
+ghost use Prim.Native.Nat.{_≤_, _<_};
 ghost use lib.Dec.{ltb};
 ghost use Rattle.charring.specs.Stages.{way};
 ghost use Rattle.charring.specs.Phases.{phaseOn, phaseAt};

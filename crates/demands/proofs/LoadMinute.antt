@@ -1,18 +1,17 @@
 -- Demand 3 holds. Assumes nothing.
-use Prim.Native.Nat.{ℕ, suc, _≤_, _<_}
+use Prim.Native.Nat.{ℕ, _≤_, _<_}
 use mathlib.Core.Path.{_≡_, refl, sym, ap, subst, _∙_}
 use mathlib.Core.List.{List, [], _∷_, _++_, append-assoc}
-use mathlib.Core.Logic.{_⊎_, inl, inr, ⊎-elim}
+use mathlib.Core.Logic.{inl, inr, ⊎-elim}
 use native.Mathlib.Omega.{arith}
 use native.Mathlib.Nat.{eq-or-lt-of-le}
 use Rattle.panel.specs.declared.Panel.{Panel}
 use Rattle.limits.specs.Lines.{answer}
 use Rattle.record.specs.Layouts.{panelOf}
-use Rattle.record.specs.Refusals.{recordRefusal}
 use Rattle.charring.specs.Depths.{micrometresAt, tenthsAt}
 use Rattle.layers.specs.Layers.{eiMinute}
 use Rattle.grades.specs.Grades.{gradeOf, reiOf}
-use Rattle.load.specs.Failure.{TimePasses, PassesUpTo, AboveFailure, IsLoadMinute}
+use Rattle.load.specs.Failure.{TimePasses, PassesUpTo, IsLoadMinute}
 use Rattle.load.proofs.WholeParts.{whole-exactly}
 use Rattle.load.proofs.Closeness.{load-next-above}
 use Rattle.load.proofs.Exposure.{not-enlarged}

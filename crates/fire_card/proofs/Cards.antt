@@ -1,13 +1,12 @@
 -- The card call: lines 1 to 13 come first, then the space for this very card.
-use Prim.Native.Nat.{ℕ, zero, suc, _+_, _*_, _≤_}
+use Prim.Native.Nat.{ℕ, zero, suc, _+_, _≤_}
 use mathlib.Core.Path.{_≡_, refl, sym, ap, _∙_}
 use mathlib.Core.List.{List, [], _∷_, _++_}
 use lib.ListN.{length, length-append}
 use native.Mathlib.Omega.{arith}
 use Rattle.panel.specs.declared.Panel.{Panel}
 use Rattle.limits.specs.Lines.{refusal, answer}
-use Rattle.limits.proofs.FirstLine.{none-first, first-some, refused}
-use Rattle.record.specs.declared.Reading.{Reading}
+use Rattle.limits.proofs.FirstLine.{none-first, first-some, turned-back}
 use Rattle.record.specs.Layouts.{panelOf}
 use Rattle.record.specs.Refusals.{recordLines, recordRefusal}
 use Rattle.record.specs.Answers.{reading, blank, decode}
@@ -53,13 +52,12 @@ pub card-refused : (b space : List ℕ) (n : ℕ) → n ≡ recordRefusal b → 
 card-refused b space n e ne =
     let text = cardText (panelOf b) 0 in
     let ne′ : recordRefusal b ≡ 0 → ⊥ = λ z. ne (e ∙ z) in
-    let t = card-turned b text space ne′ in
-    let no : cardRefusal b text space ≡ 0 → ⊥ = λ z. ne′ (sym t ∙ z) in
+    let t = e ∙ sym (card-turned b text space ne′) in
     record {
       load = 0;
       is = λ z. absurd (ne′ z);
-      answered = ap Refused (e ∙ sym t) ∙ refused (cardRefusal b text space) Refused (Written (length text)) no;
-      after = refused (cardRefusal b text space) (λ (k : ℕ). space) (over text space) no;
+      answered = turned-back Refused (Written (length text)) t ne;
+      after = turned-back (λ (k : ℕ). space) (over text space) t ne;
     }
 
 pub card-delivered :

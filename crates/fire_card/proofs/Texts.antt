@@ -1,17 +1,13 @@
 -- A text and a lent space: what is answered and left where the text fits, and where it does not.
 use Prim.Native.Nat.{ℕ, _≤_, _<_}
-use mathlib.Core.Path.{_≡_, refl, sym, ap, _∙_}
-use mathlib.Core.Bool.{Bool}
-use mathlib.Core.List.{List, [], _∷_}
+use mathlib.Core.Path.{_≡_, refl, _∙_}
+use mathlib.Core.List.{List}
 use borrow.Author.Tests.{lt-ltb, le-ltb}
 use lib.ListN.{length}
-use Rattle.numbers.specs.Choice.{pick}
-use Rattle.limits.specs.Lines.{refusal}
-use Rattle.limits.proofs.FirstLine.{answered}
 use Rattle.card_text.specs.Stores.{Put}
 use Rattle.card_text.proofs.Storing.{put-over}
 use Rattle.fire_card.specs.declared.CardAnswer.the-variants.{Written, Refused}
-use Rattle.fire_card.specs.Answers.{shortLine, over, textAnswer, textAfter}
+use Rattle.fire_card.specs.Answers.{textAnswer, textAfter}
 
 pub text-short : (text space : List ℕ) → length space < length text → (Refused 14 ≡ textAnswer text space) × (space ≡ textAfter text space)
 unfolding textAnswer textAfter

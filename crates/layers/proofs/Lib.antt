@@ -1,4 +1,5 @@
 pub mod Accepted
+pub mod BasicTimes
 pub mod LateTimes
 pub mod Runs
 pub mod Unused

@@ -10,15 +10,23 @@ ghost use mathlib.Core.Path.{_≡_};
 ghost use mathlib.Core.List.{List, [], _∷_, map};
 ghost use Prim.Native.Nat.{ℕ, _+_, _≤_};
 ghost use Rattle.panel.specs.Boards.{boardsOf};
-ghost use Rattle.panel.specs.Lamellae.{lamella, lamellaeOf};
-ghost use Rattle.layers.specs.Layers.{board, wood, withProtection, withInsulation, protectedAfter, eiSum};
+ghost use Rattle.panel.specs.Lamellae.{lamellaeOf};
+ghost use Rattle.layers.specs.Layers.{board, wood, layerTime, withProtection, protectedAfter, eiSum};
 ghost use Rattle.layers.specs.Fits.{BoardFits, CladdingFits, LamellaeFit, LayersFit};
+
+// With one more layer, by its basic time and its joint coefficient.
+fn with_layer(s: u32, t: u16, joint: u8) -> u32
+    requires { ⌜ (s ≤ 180000) × ((t ≤ 15000) × (joint ≤ 100)) ⌝ }
+    ensures { λ r. ⌜ (r ≡ s + layerTime s t joint) × (r ≤ s + 15000) ⌝ }
+{
+    s + layer_time(s, t, joint)
+}
 
 fn with_board(s: u32, b: Board) -> u32
     requires { ⌜ (s ≤ 180000) × BoardFits b ⌝ }
     ensures { λ r. ⌜ (r ≡ withProtection s (board b)) × (r ≤ s + 15000) ⌝ }
 {
-    s + layer_time(s, gypsum_protection::at(b.thickness), b.joint)
+    with_layer(s, gypsum_protection::at(b.thickness), b.joint)
 }
 
 fn with_two(outer: Board, inner: Board) -> u32
@@ -39,22 +47,7 @@ fn boards_sum(c: Cladding) -> u32
     }
 }
 
-// A lamella's direction does not matter.
-fn with_wood(s: u32, h: u16) -> u32
-    requires { ⌜ (s ≤ 180000) × ((100 ≤ h) × (h ≤ 600)) ⌝ }
-    ensures { λ r. ⌜ ((g : ℕ) → r ≡ withProtection s (wood (lamella g h))) × (r ≤ s + 15000) ⌝ }
-{
-    s + layer_time(s, wood_protection::at(h), 100)
-}
-
-fn with_last(s: u32, h: u16) -> u32
-    requires { ⌜ (s ≤ 180000) × ((100 ≤ h) × (h ≤ 600)) ⌝ }
-    ensures { λ r. ⌜ ((g : ℕ) → r ≡ withInsulation s (wood (lamella g h))) × (r ≤ s + 15000) ⌝ }
-{
-    s + layer_time(s, wood_insulation::at(h), 100)
-}
-
-// After the first n lamellae, all by protection.
+// After the first n lamellae, all by protection. Their directions do not matter.
 fn protected(s: u32, thicknesses: [u16; 9], n: usize) -> u32
     requires { ⌜ (s ≤ 30000) × ((n ≤ 8) × LamellaeFit thicknesses n) ⌝ }
     ensures { λ r. ⌜ ((gs : List ℕ) → r ≡ protectedAfter s (map wood (lamellaeOf gs thicknesses n))) × (r ≤ 180000) ⌝ }
@@ -62,7 +55,7 @@ fn protected(s: u32, thicknesses: [u16; 9], n: usize) -> u32
     let mut sum = s;
     let mut i = 0;
     while i < n {
-        sum = with_wood(sum, thicknesses[i]);
+        sum = with_layer(sum, wood_protection::at(thicknesses[i]), 100);
         i += 1;
     }
     sum
@@ -76,8 +69,9 @@ pub(crate) fn ei_sum_of(p: Panel) -> u32
     let c = p.cladding;
     let thicknesses = p.thicknesses;
     let last = p.count - 1;
-    with_last(
+    with_layer(
         protected(boards_sum(c), thicknesses, last),
-        thicknesses[last],
+        wood_insulation::at(thicknesses[last]),
+        100,
     )
 }

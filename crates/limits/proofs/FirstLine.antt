@@ -102,3 +102,12 @@ refused (suc n) f value ne = refl
 -- no refusal: the value is answered
 pub answered {ℓ} : {A : Type ℓ} (n : ℕ) (f : ℕ → A) (value : A) → n ≡ 0 → value ≡ answer n f value
 answered n f value e = rw e
+
+-- Where n is what a check found, as `panel_refusal`: a call that is turned back answers it
+
+pub turned-back {ℓ} : {A : Type ℓ} {n m : ℕ} (f : ℕ → A) (value : A) → n ≡ m → (n ≡ 0 → ⊥) → f n ≡ answer m f value
+turned-back {m} f value e ne = ap f e ∙ refused m f value (λ z. ne (e ∙ z))
+
+-- and one that is let through answers its value
+pub let-through {ℓ} : {A : Type ℓ} {n m : ℕ} {x value : A} (f : ℕ → A) → n ≡ m → n ≡ 0 → x ≡ value → x ≡ answer m f value
+let-through {m} {value} f e z e′ = e′ ∙ answered m f value (sym e ∙ z)

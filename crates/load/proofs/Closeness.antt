@@ -6,7 +6,7 @@ use mathlib.Core.Path.{_≡_, refl, sym, ap, _∙_}
 use mathlib.Core.Bool.{Bool, true, false, true≢false}
 use mathlib.Core.Logic.{_⊎_, inl, inr}
 use native.Mathlib.Omega.{arith}
-use native.Mathlib.Nat.{le-trans, mul-pos, zero-add}
+use native.Mathlib.Nat.{le-trans, mul-pos}
 use Rattle.panel.specs.declared.Panel.{Panel}
 use Rattle.section.specs.Tests.{depthPasses}
 use Rattle.charring.specs.Depths.{tenthsAt}

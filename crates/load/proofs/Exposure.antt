@@ -1,6 +1,6 @@
 -- More exposure never enlarges the remaining section, whatever the panel and the two times.
 use Prim.Native.Nat.{ℕ, _+_, _-_, _*_, _≤_, _<_, max}
-use mathlib.Core.Path.{_≡_, refl, ap, _∙_}
+use mathlib.Core.Path.{_≡_, refl}
 use mathlib.Core.Bool.{Bool, true, false, _&&_}
 use mathlib.Core.List.{List, [], _∷_}
 use mathlib.Core.Logic.{inl, inr}
@@ -11,7 +11,7 @@ use lib.Dec.{leb}
 use Rattle.numbers.proofs.Booleans.{not-both}
 use Rattle.panel.specs.declared.Panel.{Panel}
 use Rattle.panel.specs.Lamellae.{Lamella, along, lamellae}
-use Rattle.section.specs.Sections.{Part, leastRemainder, rest, counts, keepIf, countedFrom, counted}
+use Rattle.section.specs.Sections.{Part, leastRemainder, rest, counts, keepIf, countedFrom}
 use Rattle.charring.specs.Depths.{tenthsAt}
 use Rattle.charring.proofs.DepthLaws.{effective-no-less, tenths-later}
 use Rattle.load.specs.Exposure.{InsideOne, EachInsideOne, NotEnlarged}

@@ -2,20 +2,18 @@
 use Prim.Native.Nat.{ℕ, zero, suc}
 use mathlib.Core.Path.{_≡_, refl, sym, ap, _∙_}
 use Rattle.limits.specs.Lines.{answer}
-use Rattle.limits.proofs.FirstLine.{refused, answered}
+use Rattle.limits.proofs.FirstLine.{turned-back, let-through}
 use Rattle.load.specs.Answers.{AnswerBy}
 
-module _ {A : Type 0} (Is : ℕ → Type 0) (refusal : ℕ) (turned : ℕ → A) (value : ℕ → A) where
-  pub by-refused : (n : ℕ) → n ≡ refusal → (n ≡ 0 → ⊥) → AnswerBy Is refusal turned value (turned n)
-  by-refused n e ne =
-      let ne′ : refusal ≡ 0 → ⊥ = λ z. ne (e ∙ z) in
-      record { number = 0; is = λ z. absurd (ne′ z); answered = ap turned e ∙ refused refusal turned (value 0) ne′ }
+module _ {A : Type 0} {Is : ℕ → Type 0} {refusal : ℕ} {turned : ℕ → A} {value : ℕ → A} where
+  pub by-refused : {n : ℕ} → n ≡ refusal → (n ≡ 0 → ⊥) → AnswerBy Is refusal turned value (turned n)
+  by-refused e ne = record { number = 0; is = λ z. absurd (ne (e ∙ z)); answered = turned-back turned (value 0) e ne }
 
-  pub by-value : (n m : ℕ) → n ≡ refusal → n ≡ 0 → Is m → AnswerBy Is refusal turned value (value m)
-  by-value n m e z h = record { number = m; is = λ _. h; answered = answered refusal turned (value m) (sym e ∙ z) }
+  pub by-value : {n : ℕ} {r : A} (m : ℕ) → n ≡ refusal → n ≡ 0 → Is m → r ≡ value m → AnswerBy Is refusal turned value r
+  by-value m e z h v = record { number = m; is = λ _. h; answered = let-through turned e z v }
 
-  pub by-unique : ((m k : ℕ) → Is m → Is k → m ≡ k) → (r s : A) → AnswerBy Is refusal turned value r → AnswerBy Is refusal turned value s → r ≡ s
-  by-unique one r s h k =
+  pub by-unique : {r s : A} → ((m k : ℕ) → Is m → Is k → m ≡ k) → AnswerBy Is refusal turned value r → AnswerBy Is refusal turned value s → r ≡ s
+  by-unique one h k =
       h .answered ∙ same refusal (h .is) (k .is) ∙ sym (k .answered)
     where
       same : (n : ℕ) → (n ≡ 0 → Is (h .number)) → (n ≡ 0 → Is (k .number)) → answer n turned (value (h .number)) ≡ answer n turned (value (k .number))

@@ -1,18 +1,18 @@
 -- The reserve: a difference of two minutes within 32 bits, and what its sign means.
-use Prim.Native.Nat.{ℕ, zero, suc, _+_, _-_, _*_, _≤_, _<_}
+use Prim.Native.Nat.{ℕ, zero, suc, _+_, _-_, _≤_, _<_}
 use mathlib.Core.Path.{_≡_, refl, sym, ap, ap₂, subst, _∙_}
 use mathlib.Core.Bool.{Bool, cond}
 use mathlib.Core.Logic.{_↔_}
 use native.Mathlib.Omega.{arith}
 use native.Mathlib.Decide.{decLe}
-use native.Mathlib.Nat.{lt-of-not-le, add-zero, mul-le-mul-right, le-trans}
+use native.Mathlib.Nat.{lt-of-not-le}
 use borrow.Author.Tests.{lt-ltb, le-ltb}
-use lib.Dec.{T, ltb, leb, le→leb, leb→le}
+use lib.Dec.{le→leb}
 use lib.IntN.{ℤ, pos, negsuc, subℕ, _-ℤ_}
-use lib.Signed.{_≤ℤ_, leZ, leZ-yes, mag}
+use lib.Signed.{_≤ℤ_, leZ-yes}
 use mir.Syntax.{w32}
-use mir.Val.{SFits, toZ, ofZ}
-use mir.Facts.{toZ-pos, toZ-ofZ}
+use mir.Val.{SFits, toZ}
+use mir.Facts.{toZ-pos}
 use Rattle.panel.specs.declared.Panel.{Panel}
 use Rattle.load.specs.Failure.{TimePasses, PassesUpTo, IsLoadMinute}
 use Rattle.load.specs.Answers.{reserveOf}

@@ -12,7 +12,7 @@ use Rattle.section.specs.Tests.{depthPasses}
 use Rattle.charring.specs.Depths.{tenthsAt}
 use Rattle.charring.proofs.DepthBounds.{tenths-zero}
 use Rattle.charring.proofs.DepthLaws.{tenths-later}
-use Rattle.load.specs.Failure.{EveryTenthPasses, TimePasses, PassesUpTo, NotAboveFailure, IsWholePart, IsLoadMinute}
+use Rattle.load.specs.Failure.{EveryTenthPasses, NotAboveFailure, IsWholePart, IsLoadMinute}
 use Rattle.load.specs.Scan.{nextPass, lastPassing, loadScan}
 
 -- a depth that does not pass

@@ -1,14 +1,11 @@
 -- Unused places do not matter: panels that differ at most there pass at the same times and get the same answers.
 use Prim.Native.Nat.{ℕ}
 use mathlib.Core.Path.{_≡_, refl, transport}
-use mathlib.Core.Bool.{Bool}
 use Rattle.panel.specs.declared.Panel.{Panel}
 use Rattle.panel.specs.Lamellae.{SameUsed}
 use Rattle.panel.proofs.Used.{same-lamellae}
 use Rattle.section.specs.Tests.{depthPasses}
-use Rattle.limits.specs.Refusals.{panelRefusal}
 use Rattle.limits.proofs.Unused.{refusal-unused}
-use Rattle.charring.specs.Answers.{minuteRefusal}
 use Rattle.charring.proofs.Unused.{tenths-same, minute-refusal-same}
 use Rattle.load.specs.declared.LoadAnswer.{LoadAnswer}
 use Rattle.load.specs.declared.LoadAnswer.the-variants.{Minute, Refused}
@@ -37,11 +34,11 @@ load-minute-unique p m k h l = whole-unique (TimePasses p) 1 m k h l
 
 pub load-unused : (p q : Panel) → SameUsed p q → (r s : LoadAnswer) → LoadAnswered p r → LoadAnswered q s → r ≡ s
 load-unused p q h r s a b =
-    by-unique (IsLoadMinute q) (panelRefusal q) Refused Minute (load-minute-unique q) r s
+    by-unique (load-minute-unique q)
     (transport (λ i. AnswerBy (load-minute-same p q h i) (refusal-unused p q h i) Refused Minute r) a) b
 
 pub reserve-unused : (p q : Panel) → SameUsed p q → (wanted : ℕ) (r s : ReserveAnswer) → ReserveAnswered p wanted r → ReserveAnswered q wanted s → r ≡ s
 reserve-unused p q h wanted r s a b =
     let value : ℕ → ReserveAnswer = λ load. By (reserveOf wanted load) in
-    by-unique (IsLoadMinute q) (minuteRefusal q wanted) RefusedReserve value (load-minute-unique q) r s
+    by-unique (load-minute-unique q)
     (transport (λ i. AnswerBy (load-minute-same p q h i) (minute-refusal-same p q h wanted i) RefusedReserve value r) a) b

@@ -1,5 +1,4 @@
 // The load minute, minute by minute. No open calls: the limits must hold, and depth 0 must pass.
-use charring::Fire;
 use charring::depths::tenths_in;
 use charring::fires::fire_of;
 use panel::Panel;

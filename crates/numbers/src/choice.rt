@@ -1,6 +1,6 @@
 // Tests and choices, as functions without branches, so that what a caller computes is the definition itself.
 ghost use mathlib.Core.Path.{_≡_};
-ghost use Prim.Native.Nat.{_-_, _≤_, _<_, min};
+ghost use Prim.Native.Nat.{_-_, _≤_, min};
 ghost use Rattle.numbers.specs.Choice.{pick, outside};
 
 pub fn is_outside(least: u32, greatest: u32, x: u32) -> bool

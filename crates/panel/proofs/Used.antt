@@ -44,12 +44,6 @@ lamellaeOf-nine ls =
     ap₂ lamella (getD-nine (λ (l : Lamella). l .direction) ls i (lamella 0 0) refl h)
     (getD-nine (λ (l : Lamella). l .thickness) ls i (lamella 0 0) refl h))
 
--- clearing the unused places of a panel leaves its lamellae
-pub cleared-lamellae : (p : Panel) → lamellae (cleared p) ≡ lamellae p
-cleared-lamellae p =
-    ap (lamellaeOf (cleared p .directions) (cleared p .thicknesses)) (sym (length-lamellaeOf (p .directions) (p .thicknesses) (p .count)))
-    ∙ lamellaeOf-nine (lamellae p)
-
 -- a panel and the same with its unused places 0 differ at most there
 pub cleared-same : (p : Panel) → SameUsed p (cleared p)
 unfolding lamellaeOf

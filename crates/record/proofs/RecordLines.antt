@@ -1,4 +1,4 @@
--- What a record's lines leave of its panel.
+-- What a record's lines leave of its panel, and what the writer answers and leaves.
 use Prim.Native.Nat.{ℕ, zero, suc, _+_, _*_, _<_, _≤_}
 use mathlib.Core.Path.{_≡_, refl, sym, ap, _∙_}
 use mathlib.Core.List.{List, [], _∷_, _++_}
@@ -14,7 +14,7 @@ use Rattle.panel.specs.declared.Panel.{Panel}
 use Rattle.limits.specs.Lines.{line, NoneFits}
 use Rattle.limits.specs.Causes.{badCount}
 use Rattle.limits.specs.Refusals.{Loaded, panelLines, panelRefusal}
-use Rattle.limits.proofs.FirstLine.{first-none, first-some, none-first, none-left, refused, answered}
+use Rattle.limits.proofs.FirstLine.{first-none, none-first, none-left, said, answered, turned-back}
 use Rattle.numbers.proofs.Booleans.{or-none}
 use Rattle.limits.proofs.Accepted.{loaded-by, none-fits}
 use Rattle.record.specs.Layouts.{boardCount, lamellaCount, claddingAt, boardFrom, boardWidths, recordLength, encode}
@@ -44,9 +44,9 @@ record-loaded b p e h =
 -- The writer's lines
 
 -- a panel that is turned back is turned back by its own line, whatever the space
-pub write-refused : (p : Panel) (space : List ℕ) → (panelRefusal p ≡ 0 → ⊥) → writeRefusal p space ≡ panelRefusal p
+pub write-refused : (p : Panel) (space : List ℕ) (n : ℕ) → n ≡ panelRefusal p → (n ≡ 0 → ⊥) → n ≡ writeRefusal p space
 unfolding writeRefusal panelRefusal
-write-refused p space ne = first-some (panelLines p) (pick (shortFor p space) 14 0) ne
+write-refused p space n e ne = said (panelLines p) (pick (shortFor p space) 14 0) n e ne
 
 -- for any other panel the space decides
 pub write-open : (p : Panel) (space : List ℕ) → panelRefusal p ≡ 0 → writeRefusal p space ≡ pick (shortFor p space) 14 0
@@ -75,10 +75,7 @@ pub answers-refused :
     → (Refused n ≡ writeAnswer p space) × (space ≡ spaceAfter p space)
 unfolding writeAnswer spaceAfter
 answers-refused p space n e ne =
-    let ne′ : writeRefusal p space ≡ 0 → ⊥ = λ z. ne (e ∙ z) in (
-      ap Refused e ∙ refused (writeRefusal p space) Refused (Written (recordLength p)) ne′,
-      refused (writeRefusal p space) (λ (k : ℕ). space) (encode p ++ drop (recordLength p) space) ne′,
-    )
+    (turned-back Refused (Written (recordLength p)) e ne, turned-back (λ (k : ℕ). space) (encode p ++ drop (recordLength p) space) e ne)
 
 pub answers-written :
     (p : Panel) (space after : List ℕ) (len : ℕ) → len ≡ recordLength p → panelRefusal p ≡ 0 → recordLength p ≤ length space

@@ -1,10 +1,10 @@
 -- What an accepted record's lines say of its bytes.
-use Prim.Native.Nat.{ℕ, zero, suc, _+_, _*_, _≤_, min}
+use Prim.Native.Nat.{ℕ, zero, suc, _+_, _*_, _≤_, _<_, min}
 use mathlib.Core.Path.{_≡_, refl, sym, ap, _∙_}
 use mathlib.Core.List.{List, map}
 use mathlib.Core.Bool.{not}
 use native.Mathlib.Omega.{arith}
-use borrow.Author.Tests.{ltb-false, eqb-true, not-false}
+use borrow.Author.Tests.{ltb-false, lt-ltb, le-ltb, eqb-true, not-false}
 use lib.ListN.{length}
 use lib.Dec.{ltb, eqb}
 use mathlib.Core.Logic.{_↔_}
@@ -41,6 +41,11 @@ record-first b ne = refusal-first (recordLines b (panelOf b)) ne
 
 pub accepted-lines : (b : List ℕ) → recordRefusal b ≡ 0 → NoneFits (recordLines b (panelOf b))
 accepted-lines b e = record-accepted-iff b .0 e
+
+-- an input longer than any record meets line 1, whatever it says of its length
+pub too-long : (b : List ℕ) → 53 < length b → recordRefusal b ≡ 1
+unfolding recordRefusal
+too-long b h = rw (le-ltb (length b) 21 (omega arith), lt-ltb 53 (length b) h) refl
 
 pub accepted-sound : (b : List ℕ) → recordRefusal b ≡ 0 → Sound b
 accepted-sound b e =

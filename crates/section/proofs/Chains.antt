@@ -2,11 +2,12 @@
 -- Assumes nothing.
 use Prim.Native.Nat.{ℕ, _+_, _-_, _*_, _≤_, _<_}
 use mathlib.Core.Path.{_≡_, refl}
-use mathlib.Core.Bool.{Bool, true, false, _&&_}
+use mathlib.Core.Bool.{Bool, true, false}
 use mathlib.Core.List.{List, [], _∷_}
 use native.Mathlib.Nat.{mul-le-mul, le-trans}
 use native.Mathlib.Omega.{arith}
 use borrow.Author.Tests.{leb-true}
+use Rattle.numbers.proofs.Booleans.{and-right}
 use Rattle.panel.specs.Lamellae.{Lamella, along, thickness}
 use Rattle.section.specs.Sections.{Part, leastRemainder, rest, counts, keepIf, countedFrom, counted, total, lowest, highest, sectionOf}
 use Rattle.section.specs.Tests.{SectionBounds}
@@ -21,15 +22,10 @@ chain-from-higher : {top higher bottom : ℕ} {xs : List Part} → higher ≤ to
 chain-from-higher h (none below) = none (le-trans h below)
 chain-from-higher h (more after forward c) = more (le-trans h after) forward c
 
-and-true : (a b : Bool) → (a && b) ≡ true → b ≡ true
-and-true true b e = e
-and-true false true e = refl
-and-true false false e = e
-
 -- a lamella that counts leaves a part that is not empty
 pub counts-forward : (depth top : ℕ) (l : Lamella) → counts depth top l ≡ true → rest depth top l .from < rest depth top l .to
 counts-forward depth top l e =
-    let least = leb-true leastRemainder (rest depth top l .to - rest depth top l .from) (and-true (along l) _ e) in
+    let least = leb-true leastRemainder (rest depth top l .to - rest depth top l .from) (and-right (along l) _ e) in
     omega arith
 
 chain-keepIf : (depth top bottom : ℕ) (l : Lamella) (xs : List Part) (b : Bool) → counts depth top l ≡ b

@@ -3,7 +3,7 @@ use Prim.Native.Nat.{ℕ, _-_, _*_, _≤_, max}
 use mathlib.Core.Bool.{Bool, _&&_}
 use lib.Dec.{leb, ltb}
 use Rattle.panel.specs.declared.Panel.{Panel}
-use Rattle.panel.specs.Lamellae.{lamellae, thickness}
+use Rattle.panel.specs.Lamellae.{lamellae}
 use Rattle.section.specs.declared.Section.{Section}
 use Rattle.section.specs.Sections.{counted, sectionOf}
 

@@ -1,11 +1,9 @@
 // The sums over the counted parts, lamella by lamella from the exposed face.
 use crate::Section;
-use numbers::natural::beyond;
 use numbers::natural::larger;
 use numbers::natural::wide;
 ghost use mathlib.Core.Path.{_≡_};
-ghost use mathlib.Core.Bool.{_&&_};
-ghost use Prim.Native.Nat.{_+_, _-_, _*_, _≤_};
+ghost use Prim.Native.Nat.{_+_, _-_, _*_, _≤_, _<_};
 ghost use lib.Dec.{eqb, leb};
 ghost use Rattle.numbers.specs.Choice.{pick};
 ghost use Rattle.panel.specs.Lamellae.{lamella, lamellaeOf, thickness};
@@ -15,20 +13,18 @@ ghost use Rattle.section.specs.Tests.{SectionBounds};
 
 // b² − a².
 fn squares(a: u64, b: u64) -> u64
-    requires { ⌜ a ≤ 4000 ⌝ }
-    requires { ⌜ b ≤ 4000 ⌝ }
+    requires { ⌜ (a ≤ b) × (b ≤ 4000) ⌝ }
     ensures { λ r. ⌜ (r ≡ b * b - a * a) × (r ≤ 16000000) ⌝ }
 {
-    beyond(b * b, a * a)
+    b * b - a * a
 }
 
 // b³ − a³.
 fn cubes(a: u64, b: u64) -> u64
-    requires { ⌜ a ≤ 4000 ⌝ }
-    requires { ⌜ b ≤ 4000 ⌝ }
+    requires { ⌜ (a ≤ b) × (b ≤ 4000) ⌝ }
     ensures { λ r. ⌜ (r ≡ b * b * b - a * a * a) × (r ≤ 64000000000) ⌝ }
 {
-    beyond(b * b * b, a * a * a)
+    b * b * b - a * a * a
 }
 
 // The outer end: that of the new part where it is the first.
@@ -41,12 +37,11 @@ fn outer_end(n: u64, a: u64, lo: u64) -> u64
 // The sums with one more counted part, from a to b, deeper than the others.
 fn with_part(s: Section, a: u64, b: u64) -> Section
     requires { ⌜ SectionBounds s ⌝ }
-    requires { ⌜ a ≤ 4000 ⌝ }
-    requires { ⌜ b ≤ 4000 ⌝ }
+    requires { ⌜ (a ≤ b) × (b ≤ 4000) ⌝ }
     ensures { λ r. ⌜ r ≡ withPart s (record { from = a; to = b }) ⌝ }
 {
     Section {
-        n: s.n + beyond(b, a),
+        n: s.n + (b - a),
         p: s.p + squares(a, b),
         q: s.q + cubes(a, b),
         lo: outer_end(s.n, a, s.lo),
@@ -54,23 +49,37 @@ fn with_part(s: Section, a: u64, b: u64) -> Section
     }
 }
 
-// Whether what is left of a lamella is counted.
-fn is_counted(direction: u8, a: u64, b: u64) -> bool
-    ensures { λ r. ⌜ r ≡ (eqb direction 1 && leb leastRemainder (b - a)) ⌝ }
+// Whether what is left of a lamella is enough to count.
+fn is_enough(a: u64, b: u64) -> bool
+    requires { ⌜ a < 4294967296 ⌝ }
+    ensures { λ r. ⌜ r ≡ leb leastRemainder (b - a) ⌝ }
 {
-    (direction == 1) & (30 <= beyond(b, a))
+    a + 30 <= b
+}
+
+// The sums with one more lamella along, which begins at top.
+fn with_along(s: Section, depth: u64, top: u64, thick: u16) -> Section
+    requires { ⌜ SectionBounds s ⌝ }
+    requires { ⌜ (depth < 4294967296) × (top + thick ≤ 4000) ⌝ }
+    ensures { λ r. ⌜ r ≡ withLamella depth top (lamella 1 thick) s ⌝ }
+{
+    let from = larger(depth, top);
+    let to = top + wide(thick);
+    if is_enough(from, to) {
+        with_part(s, from, to)
+    } else {
+        s
+    }
 }
 
 // The sums with one more lamella, which begins at top.
 fn with_lamella(s: Section, depth: u64, top: u64, direction: u8, thick: u16) -> Section
     requires { ⌜ SectionBounds s ⌝ }
-    requires { ⌜ top + thick ≤ 4000 ⌝ }
+    requires { ⌜ (depth < 4294967296) × (top + thick ≤ 4000) ⌝ }
     ensures { λ r. ⌜ r ≡ withLamella depth top (lamella direction thick) s ⌝ }
 {
-    let from = larger(depth, top);
-    let to = top + wide(thick);
-    if is_counted(direction, from, to) {
-        with_part(s, from, to)
+    if direction == 1 {
+        with_along(s, depth, top, thick)
     } else {
         s
     }

@@ -10,10 +10,7 @@ fn print_answer(answer: BuildAnswer) {
     match answer {
         BuildAnswer::Same => output::text(b"same"),
         BuildAnswer::Different => output::text(b"different"),
-        BuildAnswer::Refused(n) => {
-            output::text(b"refused ");
-            output::number(n as u64);
-        }
+        BuildAnswer::Refused(n) => output::refused(n),
     }
 }
 

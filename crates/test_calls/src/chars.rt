@@ -7,6 +7,7 @@ use charring::DepthAnswer;
 use charring::Phase;
 use charring::PhaseAnswer;
 use charring::TableAnswer;
+use numbers::choice::lesser;
 use panel::Panel;
 use test_lines::input::after_word;
 use test_lines::input::first_word;
@@ -17,15 +18,10 @@ use test_lines::records::panel_of;
 ghost use Prim.Native.Nat.{_≤_};
 ghost use lib.ListN.{length};
 
-fn print_refusal(n: u8) {
-    output::text(b"refused ");
-    output::number(n as u64);
-}
-
 fn print_depth(answer: DepthAnswer) {
     match answer {
         DepthAnswer::Depth(depth) => output::number(depth as u64),
-        DepthAnswer::Refused(n) => print_refusal(n),
+        DepthAnswer::Refused(n) => output::refused(n),
     }
 }
 
@@ -44,7 +40,7 @@ fn print_phase(phase: Phase) {
 fn print_phase_answer(answer: PhaseAnswer) {
     match answer {
         PhaseAnswer::At(phase) => print_phase(phase),
-        PhaseAnswer::Refused(n) => print_refusal(n),
+        PhaseAnswer::Refused(n) => output::refused(n),
     }
 }
 
@@ -58,7 +54,7 @@ fn print_char(p: Panel, minute: u16) {
             output::text(b" ");
             print_phase_answer(charring::calls::phase(p, minute));
         }
-        DepthAnswer::Refused(n) => print_refusal(n),
+        DepthAnswer::Refused(n) => output::refused(n),
     }
 }
 
@@ -70,13 +66,6 @@ pub fn answer_char(line: &[u8]) {
     output::end_line(after_word(rest));
 }
 
-// As many of the lent numbers as there are.
-fn at_most_400(n: u32) -> usize
-    ensures { λ r. ⌜ r ≤ 400 ⌝ }
-{
-    if n < 400 { n as usize } else { 400 }
-}
-
 fn fill_table(p: Panel, out: &mut [u32], space: usize) -> TableAnswer
     requires { ⌜ space ≤ length (now out) ⌝ }
 {
@@ -86,7 +75,7 @@ fn fill_table(p: Panel, out: &mut [u32], space: usize) -> TableAnswer
 fn print_filled(answer: TableAnswer) {
     match answer {
         TableAnswer::Filled => output::text(b"filled"),
-        TableAnswer::Refused(n) => print_refusal(n),
+        TableAnswer::Refused(n) => output::refused(n),
     }
 }
 
@@ -133,7 +122,7 @@ fn print_table(p: Panel, space: usize)
 }
 
 pub fn answer_table(line: &[u8]) {
-    let space = at_most_400(number(first_word(line)));
+    let space = lesser(number(first_word(line)) as usize, 400);
     let rest = after_word(line);
     output::text(b"table ");
     print_table(panel_of(first_word(rest)), space);

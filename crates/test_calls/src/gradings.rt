@@ -9,10 +9,7 @@ use test_lines::output;
 fn print_answer(answer: GradeAnswer) {
     match answer {
         GradeAnswer::Of(grade) => output::number(grade.minutes as u64),
-        GradeAnswer::Refused(n) => {
-            output::text(b"refused ");
-            output::number(n as u64);
-        }
+        GradeAnswer::Refused(n) => output::refused(n),
     }
 }
 

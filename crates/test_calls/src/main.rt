@@ -38,8 +38,7 @@ fn answer(line: &[u8]) {
     } else if is_word(line, b"table") {
         chars::answer_table(rest);
     } else {
-        output::text(b"unknown");
-        output::end_line(rest);
+        output::unknown(rest);
     }
 }
 

@@ -31,10 +31,7 @@ fn print_answer(answer: SectionAnswer) {
                 output::text(b"fails");
             }
         }
-        SectionAnswer::Refused(n) => {
-            output::text(b"refused ");
-            output::number(n as u64);
-        }
+        SectionAnswer::Refused(n) => output::refused(n),
     }
 }
 

@@ -7,15 +7,10 @@ use test_lines::input::first_word;
 use test_lines::output;
 use test_lines::records::panel_of;
 
-fn print_refusal(n: u8) {
-    output::text(b"refused ");
-    output::number(n as u64);
-}
-
 fn print_ei(answer: LayerAnswer) {
     match answer {
         LayerAnswer::Value(minutes) => output::number(minutes as u64),
-        LayerAnswer::Refused(n) => print_refusal(n),
+        LayerAnswer::Refused(n) => output::refused(n),
     }
 }
 
@@ -27,7 +22,7 @@ fn print_sum(p: Panel) {
             output::text(b" EI ");
             print_ei(layers::calls::ei(p));
         }
-        LayerAnswer::Refused(n) => print_refusal(n),
+        LayerAnswer::Refused(n) => output::refused(n),
     }
 }
 

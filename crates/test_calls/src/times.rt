@@ -10,10 +10,7 @@ use test_lines::output;
 fn print_answer(answer: TimeAnswer) {
     match answer {
         TimeAnswer::Time(t) => output::number(t as u64),
-        TimeAnswer::Refused(n) => {
-            output::text(b"refused ");
-            output::number(n as u64);
-        }
+        TimeAnswer::Refused(n) => output::refused(n),
     }
 }
 

@@ -1,5 +1,6 @@
 // `write SPACE HEX TEXT`: writes the record's panel into SPACE lent bytes, at most 64. They are the front of 64 bytes filled with 238.
 // Prints the writer's answer, all 64 bytes, and the text. A refused record stands for a blank panel.
+use numbers::choice::lesser;
 use panel::Panel;
 use record::Writing;
 use test_lines::input::after_word;
@@ -22,18 +23,8 @@ fn print_answer(answer: Writing) {
             output::text(b"written ");
             output::number(k as u64);
         }
-        Writing::Refused(n) => {
-            output::text(b"refused ");
-            output::number(n as u64);
-        }
+        Writing::Refused(n) => output::refused(n),
     }
-}
-
-// As many of the lent bytes as there are.
-fn at_most_64(n: u32) -> usize
-    ensures { λ r. ⌜ r ≤ 64 ⌝ }
-{
-    if n < 64 { n as usize } else { 64 }
 }
 
 fn print_writing(p: Panel, space: usize)
@@ -47,7 +38,7 @@ fn print_writing(p: Panel, space: usize)
 }
 
 pub fn answer(line: &[u8]) {
-    let space = at_most_64(number(first_word(line)));
+    let space = lesser(number(first_word(line)) as usize, 64);
     let rest = after_word(line);
     output::text(b"write ");
     print_writing(panel_of(first_word(rest)), space);

@@ -2,6 +2,7 @@
 // Each goes into SPACE lent bytes, at most 200. They are the front of 200 bytes, each a full stop. Prints the number of bytes written,
 // or the refusal; whether all bytes past those written (on a refusal all 200) are the same; and the text. The bytes written follow.
 use fire_card::CardAnswer;
+use numbers::choice::lesser;
 use test_lines::input::after_word;
 use test_lines::input::first_word;
 use test_lines::input::hex_bytes;
@@ -21,12 +22,6 @@ fn refusal_into(n: u8, out: &mut [u8], space: usize) -> CardAnswer
     requires { ⌜ space ≤ length (now out) ⌝ }
 {
     fire_card::calls::refusal(n, &mut out[0..space])
-}
-
-fn least(a: usize, b: usize) -> usize
-    ensures { λ r. ⌜ (r ≤ a) × (r ≤ b) ⌝ }
-{
-    if a < b { a } else { b }
 }
 
 fn is_full_stops(bytes: &[u8]) -> bool {
@@ -49,7 +44,7 @@ fn print_unwritten(bytes: &[u8]) {
 }
 
 fn print_written(n: usize, bytes: &[u8], name: &[u8]) {
-    let end = least(n, bytes.len());
+    let end = lesser(n, bytes.len());
     output::number(n as u64);
     print_unwritten(&bytes[end..]);
     output::end_line(name);
@@ -73,7 +68,7 @@ fn print_answer(answer: CardAnswer, bytes: &[u8], name: &[u8]) {
 fn space_of(word: &[u8]) -> usize
     ensures { λ r. ⌜ r ≤ 200 ⌝ }
 {
-    least(number(word) as usize, 200)
+    lesser(number(word) as usize, 200)
 }
 
 pub fn answer_card(line: &[u8]) {

@@ -27,8 +27,7 @@ fn answer(line: &[u8]) {
     } else if is_word(line, b"reigrade") {
         gradings::answer_rei(rest);
     } else {
-        output::text(b"unknown");
-        output::end_line(rest);
+        output::unknown(rest);
     }
 }
 

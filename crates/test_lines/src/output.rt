@@ -33,3 +33,9 @@ pub fn end_line(name: &[u8]) {
     text(name);
     text(b"\n");
 }
+
+// For a line that names no call.
+pub fn unknown(rest: &[u8]) {
+    text(b"unknown");
+    end_line(rest);
+}

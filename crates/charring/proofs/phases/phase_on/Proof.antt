@@ -1,7 +1,8 @@
 -- `charring::phases::phase_on` meets its contract. The loop's invariant: what will come out is unchanged. The measure is the
 -- lines left. Assumes nothing.
 use Prim.Native.Nat.{_+_, _-_, _≤_, _<_}
-use Rattle.charring.proofs.Onward.{Onward, onward-start, onward-fits, onward-stop, onward-more, onward-skip, onward-last}
+use Rattle.charring.proofs.Onward.{Onward, onward-start, onward-stop, onward-more, onward-skip, onward-last}
+use Rattle.charring.proofs.Ways.{line-within}
 use borrow.Author.Needs.{needs}
 use mathlib.Core.Path.{_≡_, _∙_}
 use native.Mathlib.Omega.{arith}
@@ -24,21 +25,21 @@ add-line c =
     let l = c .before .before .before in
     let s = l .before .before in
     let h : l .loop .i < s .args .p .count = omega arith in
-    omega (arith, onward-fits (s .args .p) (s .args .x) (l .loop .i) (l .loop .line) (l .loop .from) (l .loop .end) (l .loop .left) (s .pre .0) (l .loop .inv .1) h)
+    omega (arith, line-within (s .args .p) (l .loop .i) (s .pre .0) (l .loop .inv .1 .ends) h)
 
 mul-both : tie.Need-mul-both Inv-loop μ-loop
 mul-both c =
     let l = c .before .before .before .before .before .before .before in
     let s = l .before .before in
     let h : l .loop .i < s .args .p .count = omega arith in
-    omega (arith, onward-fits (s .args .p) (s .args .x) (l .loop .i) (l .loop .line) (l .loop .from) (l .loop .end) (l .loop .left) (s .pre .0) (l .loop .inv .1) h)
+    omega (arith, line-within (s .args .p) (l .loop .i) (s .pre .0) (l .loop .inv .1 .ends) h)
 
 add-both : tie.Need-add-both Inv-loop μ-loop
 add-both c =
     let l = c .before .before .before .before .before .before .before in
     let s = l .before .before in
     let h : l .loop .i < s .args .p .count = omega arith in
-    omega (arith, onward-fits (s .args .p) (s .args .x) (l .loop .i) (l .loop .line) (l .loop .from) (l .loop .end) (l .loop .left) (s .pre .0) (l .loop .inv .1) h)
+    omega (arith, line-within (s .args .p) (l .loop .i) (s .pre .0) (l .loop .inv .1 .ends) h)
 
 phase-in-requires : tie.Need-phase-in-requires Inv-loop μ-loop
 phase-in-requires c κs =
@@ -61,7 +62,7 @@ line-end-requires c κs =
     let l = c .before .before .before .before .before .before .before .before in
     let s = l .before .before in
     let h : l .loop .i < s .args .p .count = omega arith in (
-      omega (arith, onward-fits (s .args .p) (s .args .x) (l .loop .i) (l .loop .line) (l .loop .from) (l .loop .end) (l .loop .left) (s .pre .0) (l .loop .inv .1) h),
+      omega (arith, line-within (s .args .p) (l .loop .i) (s .pre .0) (l .loop .inv .1 .ends) h),
       (omega (arith, s .pre .0 .count), s .pre .0 .count),
     )
 
@@ -76,7 +77,7 @@ loop-again c =
       onward-more (s .args .p) (s .args .x) (l .loop .i) (l .loop .line) (l .loop .from) (l .loop .end) (l .loop .left) _ (l .loop .inv .1) h (omega arith)
           (d .before .fast-part .result) (d .settled-part .result) _ (c .line-end .result) (d .before .before .if2 .taken) (d .before .fast-part .ensures .0) (d .settled-part .ensures .0)
           (c .before .if3 .left) (omega arith) (c .line-end .ensures)
-          (omega (arith, onward-fits (s .args .p) (s .args .x) (l .loop .i) (l .loop .line) (l .loop .from) (l .loop .end) (l .loop .left) (s .pre .0) (l .loop .inv .1) (omega arith))),
+          (omega (arith, line-within (s .args .p) (l .loop .i) (s .pre .0) (l .loop .inv .1 .ends) (omega arith))),
     )
 
 loop-again-2 : tie.Need-loop-again-2 Inv-loop μ-loop

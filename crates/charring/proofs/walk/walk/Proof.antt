@@ -1,7 +1,7 @@
 -- `charring::walk::walk` meets its contract. The loop's invariant: what will come out is unchanged. The measure is the lines
 -- left. Assumes nothing.
 use Prim.Native.Nat.{_+_, _-_, _≤_, _<_}
-use Rattle.charring.proofs.Ways.{Walked, walk-start, walk-fits, walk-more, walk-end}
+use Rattle.charring.proofs.Ways.{Walked, line-within, walk-start, walk-more, walk-end}
 use borrow.Author.Needs.{needs}
 use mathlib.Core.Path.{_≡_}
 use native.Mathlib.Omega.{arith}
@@ -24,7 +24,7 @@ add-line c =
     let l = c .before .before .before in
     let s = l .before .before in
     let h : l .loop .i < s .args .p .count = omega arith in
-    omega (arith, walk-fits (s .args .p) (s .args .x) (l .loop .i) (l .loop .line) (l .loop .s) (s .pre .0) (l .loop .inv .1) h)
+    omega (arith, line-within (s .args .p) (l .loop .i) (s .pre .0) (l .loop .inv .1 .ends) h)
 
 pass-requires : tie.Need-pass-requires Inv-loop μ-loop
 pass-requires c κs =
@@ -32,7 +32,7 @@ pass-requires c κs =
     let s = l .before .before in
     let h : l .loop .i < s .args .p .count = omega arith in (
       l .loop .inv .1 .bounds,
-      omega (arith, walk-fits (s .args .p) (s .args .x) (l .loop .i) (l .loop .line) (l .loop .s) (s .pre .0) (l .loop .inv .1) h),
+      omega (arith, line-within (s .args .p) (l .loop .i) (s .pre .0) (l .loop .inv .1 .ends) h),
     )
 
 loop-again : tie.Need-loop-again Inv-loop μ-loop

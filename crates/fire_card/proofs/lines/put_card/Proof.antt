@@ -4,7 +4,6 @@ use Rattle.charring.proofs.Accepted.{fire-fits}
 use Rattle.fire_card.specs.Card.{ratingLines, cardText}
 use borrow.Author.Needs.{needs}
 use mathlib.Core.Path.{ap}
-use native.Mathlib.Omega.{arith}
 use Rattle.fire_card.proofs.lines.put_card.Statement.{statement}
 use Rattle.fire_card.proofs.lines.put_card.Tie as tie
 

@@ -1,10 +1,8 @@
 -- `layers::calls::ei_sum` meets its contract: the layers of a panel that no line turns back. Assumes nothing.
 use Rattle.layers.proofs.Accepted.{layers-fit}
 use Rattle.layers.specs.Answers.{eiSumAnswer}
-use Rattle.layers.specs.Layers.{eiSum}
 use Rattle.layers.specs.declared.LayerAnswer.the-variants.{Value, Refused}
-use Rattle.limits.proofs.FirstLine.{refused, answered}
-use Rattle.limits.specs.Refusals.{panelRefusal}
+use Rattle.limits.proofs.FirstLine.{turned-back, let-through}
 use borrow.Author.Needs.{needs}
 use mathlib.Core.Path.{sym, ap, _∙_}
 use Rattle.layers.proofs.calls.ei_sum.Statement.{statement}
@@ -12,21 +10,13 @@ use Rattle.layers.proofs.calls.ei_sum.Tie as tie
 
 returns : tie.Need-returns
 unfolding eiSumAnswer
-returns c =
-    let p = c .before .before .args .p in
-    ap Refused (c .before .panel-refusal .ensures)
-    ∙ refused (panelRefusal p) Refused (Value (eiSum p)) (λ z. c .if1 .taken (c .before .panel-refusal .ensures ∙ z))
-
-ei-sum-of-requires : tie.Need-ei-sum-of-requires
-ei-sum-of-requires c κs = layers-fit (c .before .before .args .p) (sym (c .before .panel-refusal .ensures) ∙ c .if1 .left)
+returns c = turned-back Refused _ (c .before .panel-refusal .ensures) (c .if1 .taken)
 
 returns-2 : tie.Need-returns-2
 unfolding eiSumAnswer
-returns-2 c =
-    let p = c .before .before .before .args .p in
-    ap Value (c .ei-sum-of .ensures) ∙ answered (panelRefusal p) Refused (Value (eiSum p)) (sym (c .before .before .panel-refusal .ensures) ∙ c .before .if1 .left)
+returns-2 c = let-through Refused (c .before .before .panel-refusal .ensures) (c .before .if1 .left) (ap Value (c .ei-sum-of .ensures))
 
 pub ei-sum-spec : {M : Type 1} → statement M
 ei-sum-spec =
     tie.close
-    (tie.spec (λ c κs. search needs) returns ei-sum-of-requires returns-2)
+    (tie.spec (λ c κs. search needs) returns (λ c κs. layers-fit (c .before .before .args .p) (sym (c .before .panel-refusal .ensures) ∙ c .if1 .left)) returns-2)

@@ -1,7 +1,8 @@
 -- `layers::sums::protected` meets its contract: after i turns the sum is that of the first i lamellae. Assumes nothing.
 use Prim.Native.Nat.{ℕ, _+_, _-_, _*_, _≤_}
+use Rattle.layers.proofs.BasicTimes.{time-most}
 use Rattle.layers.proofs.Runs.{protected-more}
-use Rattle.layers.specs.Layers.{withProtection, wood, protectedAfter}
+use Rattle.layers.specs.Layers.{layerTime, withProtection, protection, jointOf, wood, protectedAfter}
 use Rattle.panel.specs.Lamellae.{lamella, lamellaeOf}
 use lib.ListN.{getD}
 use mathlib.Core.List.{List, map}
@@ -20,20 +21,26 @@ loop-holds : tie.Need-loop-holds Inv-loop μ-loop
 unfolding lamellaeOf protectedAfter
 loop-holds c = (omega arith, (omega arith, λ gs. refl))
 
-with-wood-requires : tie.Need-with-wood-requires Inv-loop μ-loop
-with-wood-requires c κs = (omega arith, c .before .before .pre .1 .1 (c .before .loop .i) (omega arith))
+at-requires : tie.Need-at-requires Inv-loop μ-loop
+at-requires c κs = c .before .before .pre .1 .1 (c .before .loop .i) (omega arith)
+
+with-layer-requires : tie.Need-with-layer-requires Inv-loop μ-loop
+with-layer-requires c κs = (omega arith, (time-most _ _ _ _ _ (c .at .ensures) (omega arith), omega arith))
 
 loop-again : tie.Need-loop-again Inv-loop μ-loop
+unfolding withProtection protection jointOf
 loop-again c =
-    let s = c .before .before .before .args .s in
-    let ts = c .before .before .before .args .t2 in
-    let i = c .before .before .loop .i in (
+    let l = c .before .before .before in
+    let s = l .before .args .s in
+    let ts = l .before .args .t2 in
+    let i = l .loop .i in (
       omega arith,
       (
         omega arith,
         λ gs.
-            c .with-wood .ensures .0 (getD gs i 0)
-            ∙ ap (λ (k : ℕ). withProtection k (wood (lamella (getD gs i 0) (getD ts i 0)))) (c .before .before .loop .inv .1 .1 gs)
+            c .with-layer .ensures .0
+            ∙ ap (λ (t : ℕ). l .loop .sum + layerTime (l .loop .sum) t 100) (c .before .at .ensures)
+            ∙ ap (λ (k : ℕ). withProtection k (wood (lamella (getD gs i 0) (getD ts i 0)))) (l .loop .inv .1 .1 gs)
             ∙ sym (protected-more s gs ts i),
       ),
     )
@@ -46,4 +53,5 @@ returns c =
 pub protected-spec : {M : Type 1} → statement M
 protected-spec =
     tie.close
-    (tie.spec Inv-loop μ-loop loop-holds (λ c. omega arith) (λ c. omega arith) with-wood-requires (λ c. omega arith) (λ c. omega arith) loop-again returns)
+    (tie.spec Inv-loop μ-loop loop-holds (λ c. omega arith) (λ c. omega arith) at-requires with-layer-requires (λ c. omega arith)
+    (λ c. omega arith) loop-again returns)

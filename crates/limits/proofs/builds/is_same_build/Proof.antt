@@ -13,19 +13,17 @@ use Rattle.limits.proofs.builds.is_same_build.Tie as tie
 
 returns : tie.Need-returns
 returns c =
-    let c5 = c .before .before .before .before .before in
-    let c5 = c5 in
-    let a = c5 .args .a in
-    let b = c5 .args .b in
+    let args = c .before .before .before .before .before .args in
+    let a = args .a in
+    let b = args .b in
     ap₂ (λ (x y : Bool). x && y) (c .before .same-cladding .ensures)
     (c .same-lamellae .ensures ∙ ap (λ (n : ℕ). sameLamellae (lamellae a) (lamellaeOf (b .directions) (b .thicknesses) n)) (c .before .before .if1 .taken))
 
 returns-2 : tie.Need-returns-2
 returns-2 c =
-    let c3 = c .before .before .before in
-    let c3 = c3 in
-    let a = c3 .args .a in
-    let b = c3 .args .b in
+    let args = c .before .before .before .args in
+    let a = args .a in
+    let b = args .b in
     let unequal : sameLamellae (lamellae a) (lamellae b) ≡ false =
     sameLamellae-unequal (lamellae a) (lamellae b)
     (λ e. c .if1 .left (sym (length-lamellaeOf (a .directions) (a .thicknesses) (a .count)) ∙ e ∙ length-lamellaeOf (b .directions) (b .thicknesses) (b .count)))

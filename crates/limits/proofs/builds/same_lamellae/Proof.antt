@@ -23,18 +23,14 @@ loop-holds : tie.Need-loop-holds Inv-loop μ-loop
 unfolding lamellaeOf sameLamellae
 loop-holds c = (omega arith, refl)
 
-same-lamella-requires : tie.Need-same-lamella-requires Inv-loop μ-loop
-same-lamella-requires c κs = tt
-
 loop-again : tie.Need-loop-again Inv-loop μ-loop
 unfolding lamellaeOf
 loop-again c =
-    let c7 = c .before .before .before .before .before .before .before in
-    let c7 = c7 in
-    let gs = c7 .args .a .directions in
-    let hs = c7 .args .b .directions in
-    let ts = c7 .args .a .thicknesses in
-    let us = c7 .args .b .thicknesses in
+    let args = c .before .before .before .before .before .before .before .args in
+    let gs = args .a .directions in
+    let hs = args .b .directions in
+    let ts = args .a .thicknesses in
+    let us = args .b .thicknesses in
     let i = c .before .before .loop .i in
     let e : length (lamellaeOf gs ts i) ≡ length (lamellaeOf hs us i) = length-lamellaeOf gs ts i ∙ sym (length-lamellaeOf hs us i) in (
       omega arith,
@@ -51,6 +47,5 @@ returns c =
 pub same-lamellae-spec : {M : Type 1} → statement M
 same-lamellae-spec =
     tie.close
-    (tie.spec Inv-loop μ-loop loop-holds (λ c. omega arith) (λ c. omega arith) (λ c. omega arith)
-    (λ c. omega arith) (λ c. omega arith) (λ c. omega arith) same-lamella-requires (λ c. omega arith)
-    (λ c. omega arith) loop-again returns)
+    (tie.spec Inv-loop μ-loop loop-holds (λ c. omega arith) (λ c. omega arith) (λ c. omega arith) (λ c. omega arith)
+    (λ c. omega arith) (λ c. omega arith) (λ c κs. tt) (λ c. omega arith) (λ c. omega arith) loop-again returns)

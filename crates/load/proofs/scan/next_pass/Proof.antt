@@ -16,9 +16,6 @@ Inv-loop p from to depth₀ depth = nextPass (depthPasses p) depth (to - depth) 
 abbrev μ-loop : tie.MeasureT-loop
 μ-loop p from to depth₀ depth = to - depth
 
-loop-holds : tie.Need-loop-holds Inv-loop μ-loop
-loop-holds c = refl
-
 returns : tie.Need-returns Inv-loop μ-loop
 returns c =
     let l = c .before .before .before in
@@ -42,4 +39,5 @@ returns-2 c =
 pub next-pass-spec : {M : Type 1} → statement M
 next-pass-spec =
     tie.close
-    (tie.spec Inv-loop μ-loop loop-holds (λ c. search needs) (λ c κs. search needs) returns (λ c. omega arith) loop-again returns-2)
+    (tie.spec Inv-loop μ-loop (λ c. refl) (λ c. search needs) (λ c κs. search needs) returns (λ c. omega arith)
+    loop-again returns-2)

@@ -8,7 +8,7 @@ use Rattle.section.specs.Tests.{depthPasses}
 use borrow.Author.Needs.{needs}
 use borrow.Author.Tests.{not-true, not-false}
 use mathlib.Core.Bool.{Bool}
-use mathlib.Core.Path.{_≡_, refl, sym, ap, ap₂, _∙_}
+use mathlib.Core.Path.{_≡_, refl, sym, ap₂, _∙_}
 use native.Mathlib.Omega.{arith}
 use Rattle.load.proofs.scan.scan.Statement.{statement}
 use Rattle.load.proofs.scan.scan.Tie as tie

@@ -1,7 +1,7 @@
 -- `record::calls::read` meets its contract: the panel is handed out where no line fits.
 -- Assumes nothing.
 use Prim.Native.Nat.{ℕ}
-use Rattle.limits.proofs.FirstLine.{refused, answered}
+use Rattle.limits.proofs.FirstLine.{turned-back, let-through}
 use Rattle.limits.specs.Lines.{refusal}
 use Rattle.panel.specs.declared.Panel.{Panel}
 use Rattle.record.specs.Answers.{decode, blank, reading}
@@ -9,7 +9,7 @@ use Rattle.record.specs.Layouts.{panelOf}
 use Rattle.record.specs.Refusals.{recordRefusal, recordLines}
 use borrow.Author.Needs.{needs}
 use denote.Ref.{now}
-use mathlib.Core.Path.{sym, ap, ap₂, _∙_, _≡_}
+use mathlib.Core.Path.{ap, _∙_}
 use Rattle.record.proofs.calls.read.Statement.{statement}
 use Rattle.record.proofs.calls.read.Tie as tie
 
@@ -20,23 +20,20 @@ record-refusal-requires c κs = ap (λ (p : Panel). p .count) (c .panel-of .ensu
 returns : tie.Need-returns
 unfolding decode recordRefusal
 returns c =
-    let c3 = c .before .before .before in
-    let c3 = c3 in
-    let c5 = c3 .before .before in
-    let b = now (c5 .args .s) in
-    let e : c .before .before .record-refusal .result ≡ recordRefusal b = c .before .before .record-refusal .ensures ∙ ap (λ (p : Panel). refusal (recordLines b p)) (c3 .panel-of .ensures) in
-    ap₂ reading e (c .blank-panel .ensures)
-    ∙ refused (recordRefusal b) (λ (n : ℕ). reading n blank) (reading 0 (panelOf b)) (λ z. c .before .if1 .taken (e ∙ z))
+    let n = c .before .before .record-refusal in
+    let read = c .before .before .before in
+    let b = now (read .before .before .args .s) in
+    ap (reading (n .result)) (c .blank-panel .ensures)
+    ∙ turned-back (λ (k : ℕ). reading k blank) _ (n .ensures ∙ ap (λ (p : Panel). refusal (recordLines b p)) (read .panel-of .ensures)) (c .before .if1 .taken)
 
 returns-2 : tie.Need-returns-2
 unfolding decode recordRefusal
 returns-2 c =
-    let c4 = c .before .before .before .before in
-    let c4 = c4 in
-    let b = now (c4 .args .s) in
-    let e : c .before .record-refusal .result ≡ recordRefusal b = c .before .record-refusal .ensures ∙ ap (λ (p : Panel). refusal (recordLines b p)) (c .before .before .panel-of .ensures) in
-    ap (reading 0) (c .before .before .panel-of .ensures)
-    ∙ answered (recordRefusal b) (λ (n : ℕ). reading n blank) (reading 0 (panelOf b)) (sym e ∙ c .if1 .left)
+    let n = c .before .record-refusal in
+    let read = c .before .before in
+    let b = now (read .before .before .args .s) in
+    let-through (λ (k : ℕ). reading k blank) (n .ensures ∙ ap (λ (p : Panel). refusal (recordLines b p)) (read .panel-of .ensures)) (c .if1 .left)
+    (ap (reading 0) (read .panel-of .ensures))
 
 pub read-spec : {M : Type 1} → statement M
 read-spec =

@@ -11,12 +11,10 @@ use Rattle.record.proofs.calls.write.Tie as tie
 
 returns : tie.Need-returns
 returns c =
-    let c3 = c .before .before .before in
-    let c3 = c3 in
-    let p = c3 .args .p in
-    let space = now (c3 .args .out) in
-    answers-refused p space (c .before .panel-refusal .result)
-    (c .before .panel-refusal .ensures ∙ sym (write-refused p space (λ z. c .if1 .taken (c .before .panel-refusal .ensures ∙ z)))) (c .if1 .taken)
+    let a = c .before .before .before .args in
+    let r = c .before .panel-refusal in
+    let z = c .if1 .taken in
+    answers-refused (a .p) (now (a .out)) (r .result) (write-refused (a .p) (now (a .out)) (r .result) (r .ensures) z) z
 
 record-length-requires : tie.Need-record-length-requires
 record-length-requires c κs =
@@ -24,34 +22,31 @@ record-length-requires c κs =
 
 returns-2 : tie.Need-returns-2
 returns-2 c =
-    let c3 = c .before .before .before in
-    let c3 = c3 in
-    let c5 = c3 .before .before in
-    let p = c5 .args .p in
-    let space = now (c5 .args .out) in
-    answers-refused p space 14
-    (write-short p space (sym (c3 .panel-refusal .ensures) ∙ c .before .before .if1 .left) (rw (c .before .record-length .ensures .0) at (c .if2 .taken))) (eqb-false 14 0 refl)
+    let taken = c .before .before in
+    let r = taken .before in
+    let a = r .before .before .args in
+    answers-refused (a .p) (now (a .out)) 14
+    (write-short (a .p) (now (a .out)) (sym (r .panel-refusal .ensures) ∙ taken .if1 .left) (rw (c .before .record-length .ensures .0) at (c .if2 .taken))) (eqb-false 14 0 refl)
 
 put-record-requires : tie.Need-put-record-requires
 put-record-requires c κs =
-    let c3 = c .before .before .before in
-    let c3 = c3 in
-    let c4 = c3 .before in
-    let c6 = c4 .before .before in
-    (accepted-loaded (c6 .args .p) (sym (c4 .panel-refusal .ensures) ∙ c3 .if1 .left) .count, rw (c .before .before .record-length .ensures .0) at (c .before .if2 .left))
+    let len = c .before .before in
+    let taken = len .before in
+    let r = taken .before in (
+      accepted-loaded (r .before .before .args .p) (sym (r .panel-refusal .ensures) ∙ taken .if1 .left) .count,
+      rw (len .record-length .ensures .0) at (c .before .if2 .left),
+    )
 
 returns-3 : tie.Need-returns-3
 returns-3 c =
-    let c4 = c .before .before .before .before in
-    let c4 = c4 in
-    let c5 = c4 .before in
-    let c6 = c5 .before in
-    let c7 = c6 .before in
-    let c9 = c7 .before .before in
-    let p = c9 .args .p in
-    let space = now (c9 .args .out) in
-    answers-written p space (c .before .before .put-record .last .0) (c5 .record-length .result) (c5 .record-length .ensures .0)
-    (sym (c7 .panel-refusal .ensures) ∙ c6 .if1 .left) (rw (c5 .record-length .ensures .0) at (c4 .if2 .left)) (c .before .before .put-record .ensures)
+    let put = c .before .before in
+    let fits = put .before .before in
+    let len = fits .before in
+    let taken = len .before in
+    let r = taken .before in
+    let a = r .before .before .args in
+    answers-written (a .p) (now (a .out)) (put .put-record .last .0) (len .record-length .result) (len .record-length .ensures .0)
+    (sym (r .panel-refusal .ensures) ∙ taken .if1 .left) (rw (len .record-length .ensures .0) at (fits .if2 .left)) (put .put-record .ensures)
 
 pub write-spec : {M : Type 1} → statement M
 write-spec =

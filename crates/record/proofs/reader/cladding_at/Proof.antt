@@ -16,10 +16,9 @@ returns-2 c = rw (c .before .if2 .taken) (ap One (c .board-at .ensures))
 
 returns-3 : tie.Need-returns-3
 returns-3 c =
-    let c3 = c .before .before .before in
-    let c3 = c3 in
-    let c5 = c3 .before .before in
-    ap₂ Two (c .before .board-at2 .ensures) (c .board-at3 .ensures) ∙ two-boards (c5 .args .c) (now (c5 .args .t)) (c3 .if1 .left) (c .before .before .if2 .left)
+    let more = c .before .before in
+    let a = more .before .before .before .args in
+    ap₂ Two (c .before .board-at2 .ensures) (c .board-at3 .ensures) ∙ two-boards (a .c) (now (a .t)) (more .before .if1 .left) (more .if2 .left)
 
 pub cladding-at-spec : {M : Type 1} → statement M
 cladding-at-spec =

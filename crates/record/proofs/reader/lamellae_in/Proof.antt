@@ -25,16 +25,14 @@ loop-holds c = (omega arith, (refl, refl))
 
 loop-again : tie.Need-loop-again Inv-loop μ-loop
 loop-again c =
-    let c3 = c .before .before .before in
-    let c3 = c3 in
-    let c5 = c3 .before .before in
-    let u = now (c5 .args .u) in
-    let i = c3 .loop .i in
+    let l = c .before .before .before in
+    let u = now (l .before .before .args .u) in
+    let i = l .loop .i in
     let less : i < 9 = omega arith in (
       omega arith,
       (
-        ap₂ (λ (l : List ℕ) (x : ℕ). set l i x) (c3 .loop .inv .1 .0) (c .before .get8 .ensures) ∙ filled-more (λ (l : Lamella). l .direction) u i less,
-        ap₂ (λ (l : List ℕ) (x : ℕ). set l i x) (c3 .loop .inv .1 .1) (c .get16 .ensures) ∙ filled-more (λ (l : Lamella). l .thickness) u i less,
+        ap₂ (λ (l : List ℕ) (x : ℕ). set l i x) (l .loop .inv .1 .0) (c .before .get8 .ensures) ∙ filled-more (λ (l : Lamella). l .direction) u i less,
+        ap₂ (λ (l : List ℕ) (x : ℕ). set l i x) (l .loop .inv .1 .1) (c .get16 .ensures) ∙ filled-more (λ (l : Lamella). l .thickness) u i less,
       ),
     )
 

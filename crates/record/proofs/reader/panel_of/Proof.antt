@@ -9,7 +9,6 @@ returns : tie.Need-returns
 unfolding panelOf
 returns c =
     let c3 = c .before .before .before in
-    let c3 = c3 in
     let c4 = c3 .before in
     let c5 = c4 .before in
     let c6 = c5 .before in

@@ -31,22 +31,22 @@ loop-holds c = (omega arith, (refl, refl))
 loop-again : tie.Need-loop-again Inv-loop μ-loop
 unfolding lamellaeOf
 loop-again c =
-    let c5 = c .before .before .before .before .before in
-    let c5 = c5 in
-    let c7 = c5 .before .before in
-    let gs = c7 .args .t3 in
-    let ts = c7 .args .t4 in
-    let i = c5 .loop .i in
+    let put = c .before .before .put-lamella in
+    let l = c .before .before .before .before .before in
+    let args = l .before .before .args in
+    let gs = args .t3 in
+    let ts = args .t4 in
+    let i = l .loop .i in
     let xs = lamellaeOf gs ts i in
     let x = lamella (getD gs i 0) (getD ts i 0) in
-    let e : c7 .args .at + 3 * i ≡ c7 .args .at + length (lamellaBytes xs) = omega (arith, length-lamellaBytes xs, length-lamellaeOf gs ts i) in (
+    let e : args .at + 3 * i ≡ args .at + length (lamellaBytes xs) = omega (arith, length-lamellaBytes xs, length-lamellaeOf gs ts i) in (
       omega arith,
       (
-        c .before .before .put-lamella .kept .0 ∙ c5 .loop .inv .1 .0,
-        then-put (now (c7 .args .out)) (c5 .loop .out) (c .before .before .put-lamella .last .0) (c7 .args .at) (lamellaBytes xs) (c7 .args .at + 3 * i)
+        put .kept .0 ∙ l .loop .inv .1 .0,
+        then-put (now (args .out)) (l .loop .out) (put .last .0) (args .at) (lamellaBytes xs) (args .at + 3 * i)
             (join lamellaWidths (getD gs i 0 ∷ getD ts i 0 ∷ []))
-            (c5 .loop .inv .1 .1) e (c .before .before .put-lamella .ensures)
-            ∙ ap (sets (now (c7 .args .out)) (c7 .args .at)) (sym (lamellaBytes-more xs x) ∙ ap (λ (k : ℕ). lamellaBytes (lamellaeOf gs ts k)) (sym (add-one i))),
+            (l .loop .inv .1 .1) e (put .ensures)
+            ∙ ap (sets (now (args .out)) (args .at)) (sym (lamellaBytes-more xs x) ∙ ap (λ (k : ℕ). lamellaBytes (lamellaeOf gs ts k)) (sym (add-one i))),
       ),
     )
 

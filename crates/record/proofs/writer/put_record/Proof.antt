@@ -8,16 +8,16 @@ use Rattle.record.proofs.writer.put_record.Tie as tie
 
 returns : tie.Need-returns
 returns c =
-    let c6 = c .before .before .before .before .before .before in
-    let c6 = c6 in
-    let c10 = c6 .before .before .before .before in
-    let c14 = c10 .before .before .before .before in
-    let c15 = c14 .before in
-    let c17 = c15 .before .before in
-    let c19 = c17 .before .before in
-    parts-stored (c19 .args .p) (now (c19 .args .out)) (c14 .put-front .last .0) (c10 .put-head .last .0) (c6 .put-cladding .last .0) (c .before .before .put-tail .last .0)
-    (c15 .record-length .result) (c17 .boards-of .result) (c15 .record-length .ensures .0) (c17 .boards-of .ensures .0)
-    (c14 .put-front .ensures) (c10 .put-head .ensures) (c6 .put-cladding .ensures) (c .before .before .put-tail .ensures)
+    let tail = c .before .before .put-tail in
+    let cladding = c .before .before .before .before .before .before in
+    let head = cladding .before .before .before .before in
+    let front = head .before .before .before .before in
+    let len = front .before .record-length in
+    let boards = front .before .before .before .boards-of in
+    let a = front .before .before .before .before .before .args in
+    parts-stored (a .p) (now (a .out)) (front .put-front .last .0) (head .put-head .last .0) (cladding .put-cladding .last .0) (tail .last .0)
+    (len .result) (boards .result) (len .ensures .0) (boards .ensures .0)
+    (front .put-front .ensures) (head .put-head .ensures) (cladding .put-cladding .ensures) (tail .ensures)
 
 pub put-record-spec : {M : Type 1} → statement M
 put-record-spec =

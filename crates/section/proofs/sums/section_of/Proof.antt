@@ -20,7 +20,8 @@ loop-holds c = (omega arith, summed-start _ _ _)
 
 with-lamella-requires : tie.Need-with-lamella-requires Inv-loop μ-loop
 with-lamella-requires c κs =
-    summed-fits _ _ _ _ _ _ _ (c .before .loop .inv .1) (omega arith) (c .before .before .pre .1)
+    let fits = summed-fits _ _ _ _ _ _ _ (c .before .loop .inv .1) (omega arith) (c .before .before .pre .1) in
+    (fits .0, (search needs, fits .1))
 
 add-top : tie.Need-add-top Inv-loop μ-loop
 add-top c =

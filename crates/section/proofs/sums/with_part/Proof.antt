@@ -1,5 +1,5 @@
 -- `section::sums::with_part` meets its contract: each field is what its function ensures. Assumes nothing.
-use Prim.Native.Nat.{_+_}
+use Prim.Native.Nat.{_+_, _-_}
 use borrow.Author.Needs.{needs}
 use Rattle.section.specs.Steps.{withPart}
 use Rattle.section.proofs.sums.with_part.Statement.{statement}
@@ -9,12 +9,10 @@ returns : tie.Need-returns
 unfolding withPart
 returns c =
     let c4 = c .before .before .before .before in
-    let c6 = c4 .before .before in
-    let c7 = c6 .before in
-    let a = c7 .args in
+    let a = c4 .before .before .args in
     λ i.
     record {
-      n = a .s .n + c6 .beyond .ensures .0 i;
+      n = a .s .n + (a .b - a .a);
       p = a .s .p + c4 .squares .ensures .0 i;
       q = a .s .q + c .before .before .cubes .ensures .0 i;
       lo = c .outer-end .ensures i;
@@ -25,7 +23,7 @@ pub with-part-spec : {M : Type 1} → statement M
 with-part-spec =
     tie.close
     (tie.spec
-    (λ c κs. search needs)
+    (λ c. search needs)
     (λ c. search needs)
     (λ c κs. search needs)
     (λ c. search needs)
