@@ -14,7 +14,8 @@ use Rattle.basic_times.specs.Rules.{keeps, basicTime, gypsumProtection, 
 -- 0 keeps to every rule
 keeps-zero : (base reference power root h : ℕ) → keeps base reference power (suc root) h 0 ≡ true
 keeps-zero base reference power root h =
-    let e : 0 ^ suc root * reference ^ power ≡ 0 = ap (λ (k : ℕ). k * reference ^ power) (pow-succ' 0 root ∙ zero-mul (0 ^ root)) ∙ zero-mul (reference ^ power) in
+    let e : 0 ^ suc root * reference ^ power ≡ 0 = ap (λ (k : ℕ). k * reference ^ power) (pow-succ' 0 root ∙ zero-mul (0 ^ root))
+    ∙ zero-mul (reference ^ power) in
     le-leb (0 ^ suc root * reference ^ power) (base ^ suc root * h ^ power) (omega arith)
 
 -- what does not keep to the rule at the greatest thickness keeps to it at no smaller one, and nor does a greater number

@@ -44,7 +44,8 @@ start-most gap Unclad e = omega arith
 start-most gap (One b) e = omega (arith, board-most b e)
 start-most gap (Two outer inner) e =
     let both = or-none (badBoard outer) (badBoard inner) e in
-    let inside : innerGain inner * inner .thickness ≤ 224 * 250 = times (innerGain inner) 224 (inner .thickness) 250 (gain-most inner) (board-most inner (both .1)) in
+    let inside : innerGain inner * inner .thickness ≤ 224 * 250 = times (innerGain inner) 224 (inner .thickness) 250
+    (gain-most inner) (board-most inner (both .1)) in
     sum (outer .thickness) (innerGain inner * inner .thickness) (gapLoss gap) (board-most outer (both .0)) inside (loss-least gap)
   where
     sum : (h g l : ℕ) → h ≤ 250 → g ≤ 224 * 250 → 14000 ≤ l → 280 * h + g - l ≤ 112000
@@ -74,5 +75,6 @@ fire-fits p e =
       slow = k2-bound (p .cladding);
       least = count .0;
       count = count .1;
-      thick = ltb-false 4000 (thickness (lamellae p)) (or-none (some badLamella (lamellae p)) (ltb 4000 (thickness (lamellae p))) (boards .1 .1 .1 .0) .1);
+      thick = ltb-false 4000 (thickness (lamellae p))
+          (or-none (some badLamella (lamellae p)) (ltb 4000 (thickness (lamellae p))) (boards .1 .1 .1 .0) .1);
     }

@@ -72,7 +72,8 @@ on-lasting (t ∷ ss) x q z s pos low high =
         let f : ℕ = fastPart t in
         let r : ℕ = settledPart t in
         on-rest t ss z s k
-        ∙ later (left-low (x - q * f - 2 * q * r) (z - s * f - 2 * s * r) x q z s f r (back x (q * f) (2 * q * r) h) (back z (s * f) (2 * s * r) k) low)
+        ∙ later (left-low (x - q * f - 2 * q * r) (z - s * f - 2 * s * r) x q z s f r (back x (q * f) (2 * q * r) h)
+        (back z (s * f) (2 * s * r) k) low)
         (left-high (x - q * f - 2 * q * r) (z - s * f - 2 * s * r) x q z s f r (back x (q * f) (2 * q * r) h) (back z (s * f) (2 * s * r) k) high)
         ∙ sym e
 

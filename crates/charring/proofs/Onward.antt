@@ -113,17 +113,20 @@ module _ (p : Panel) (x i line from end left next : ℕ) (w : Onward p x i line 
   way-here : (eqb (p .bond) 1 && leb from next) ≡ true
       → stretches from end (linesIf (eqb (p .bond) 1) line (drop i (lamellae p))) (backFace p)
       ≡ record { from = from; end = end; to = next }
-      ∷ stretches next (lineEnd next (linesIf (eqb (p .bond) 1) next (drop (i + 1) (lamellae p)))) (linesIf (eqb (p .bond) 1) next (drop (i + 1) (lamellae p))) (backFace p)
+      ∷ stretches next (lineEnd next (linesIf (eqb (p .bond) 1) next (drop (i + 1) (lamellae p))))
+      (linesIf (eqb (p .bond) 1) next (drop (i + 1) (lamellae p))) (backFace p)
   way-here t =
       let b = and-left (eqb (p .bond) 1) (leb from next) t in
       ap (λ (xs : List ℕ). stretches from end xs (backFace p)) (line-here p i line next k e (eqb (p .bond) 1) b)
-      ∙ to-line from end next (linesIf (eqb (p .bond) 1) next (drop (i + 1) (lamellae p))) (backFace p) (leb-true from next (and-right (eqb (p .bond) 1) (leb from next) t))
+      ∙ to-line from end next (linesIf (eqb (p .bond) 1) next (drop (i + 1) (lamellae p))) (backFace p)
+      (leb-true from next (and-right (eqb (p .bond) 1) (leb from next) t))
 
   -- the time is over before it
   pub onward-stop : (fast settled : ℕ) → (eqb (p .bond) 1 && leb from next) ≡ true → fast ≡ min end next - from → settled ≡ next - max from end
       → left < fast + 2 * settled → phaseIn (ltb left fast) end ≡ phaseOn (way p) x 1
   onward-stop fast settled t f d h =
-      let ss = stretches next (lineEnd next (linesIf (eqb (p .bond) 1) next (drop (i + 1) (lamellae p)))) (linesIf (eqb (p .bond) 1) next (drop (i + 1) (lamellae p))) (backFace p) in
+      let ss = stretches next (lineEnd next (linesIf (eqb (p .bond) 1) next (drop (i + 1) (lamellae p))))
+      (linesIf (eqb (p .bond) 1) next (drop (i + 1) (lamellae p))) (backFace p) in
       let s : Stretch = record { from = from; end = end; to = next } in
       let h′ : left < fastPart s + 2 * settledPart s = rw (f, d) at h in
       ap (λ (y : ℕ). phaseIn (ltb left y) end) f
@@ -146,7 +149,8 @@ module _ (p : Panel) (x i line from end left next : ℕ) (w : Onward p x i line 
         endMost = omega (arith, z .most);
         leftMost = omega (arith, w .leftMost);
         same =
-            ap (λ (q : ℕ). phaseOn (stretches next q lines (backFace p)) rest 1) (end-here p (i + 1) next r k z (eqb (p .bond) 1) (and-left (eqb (p .bond) 1) (leb from next) t))
+            ap (λ (q : ℕ). phaseOn (stretches next q lines (backFace p)) rest 1)
+            (end-here p (i + 1) next r k z (eqb (p .bond) 1) (and-left (eqb (p .bond) 1) (leb from next) t))
             ∙ past-stretch s ss left rest h′ y′
             ∙ ap (λ (ys : List Stretch). phaseOn ys left 1) (sym (way-here t))
             ∙ w .same;

@@ -231,7 +231,8 @@ on-way-throughout p f n m q z order pos rate short past all low high =
 
 -- a step on the way
 way-step :
-    (p : Panel) (c k n m q : ℕ) → c * 2000 ≡ k → n ≤ m → q * failureOf p ≤ 1000 * n → charAt p n q < 2 * q * backFace p → charAt p m q < 2 * q * backFace p
+    (p : Panel) (c k n m q : ℕ) → c * 2000 ≡ k → n ≤ m → q * failureOf p ≤ 1000 * n → charAt p n q < 2 * q * backFace p
+    → charAt p m q < 2 * q * backFace p
     → afterAt p m q
     ≡ afterAt p n q + c * (2 * plainRate p * (1000 * m - q * failureOf p) - 2 * plainRate p * (1000 * n - q * failureOf p))
     → charAt p m q ≡ charAt p n q + k * plainRate p * (m - n)

@@ -49,7 +49,8 @@ module _ (p : Panel) (f : Fire) (n char : ℕ) (o : FireOf p f) (h : CharOf p f 
   unfolding phaseAt
   is-after a b c x e =
       let time : 1000 * n - f .failure ≡ 1000 * n - 1 * failureOf p = ap (λ (k : ℕ). 1000 * n - k) (o .failure ∙ sym (one-mul (failureOf p))) in
-      let x-is : x ≡ 2 * plainRate p * (1000 * n - 1 * failureOf p) = e ∙ ap (λ (k : ℕ). 2 * f .plain * k) time ∙ ap (λ (k : ℕ). 2 * k * (1000 * n - 1 * failureOf p)) (o .plain) in
+      let x-is : x ≡ 2 * plainRate p * (1000 * n - 1 * failureOf p) = e ∙ ap (λ (k : ℕ). 2 * f .plain * k) time
+      ∙ ap (λ (k : ℕ). 2 * k * (1000 * n - 1 * failureOf p)) (o .plain) in
       rw (
         phaseAt,
         through-test false (lt-leb (2 * f .back) char a),

@@ -42,7 +42,8 @@ stage-past : (r c b : ℕ) (g : ℕ → ℕ → ℕ) (x y q : ℕ) → x ≤ y �
     → g (y - q * b) q ≡ g (x - q * b) q + c * (y - q * b - (x - q * b)) → stage r b g y q ≡ stage r b g x q + c * (y - x)
 unfolding stage
 stage-past r c b g x y q h same k =
-    let e : y - q * b - (x - q * b) ≡ y - x = none-before (min y (q * b)) (min x (q * b)) (y - q * b - (x - q * b)) (y - x) same (split x y (q * b) h) in
+    let e : y - q * b - (x - q * b) ≡ y - x = none-before (min y (q * b)) (min x (q * b)) (y - q * b - (x - q * b)) (y - x) same
+    (split x y (q * b) h) in
     numbers (r * min y (q * b)) (r * min x (q * b)) (g (y - q * b) q) (g (x - q * b) q) (c * (y - x)) (ap (λ (z : ℕ). r * z) same) (rw e at k)
   where
     none-before : (u v w d : ℕ) → u ≡ v → u - v + w ≡ d → w ≡ d

@@ -24,12 +24,14 @@ stage-ramp rate b c g l r =
           let e : k * q * b ≡ k * (q * b) = omega arith in
           rw (e, ← mul-min k n (q * b), ← mul-sub k n (q * b), r .scaled k (n - q * b) q) (omega arith);
       rises = λ n m q h.
-          let before : rate * min n (q * b) ≤ rate * min m (q * b) = mul-le-mul-left rate (let z : min n (q * b) ≤ min m (q * b) = omega arith in z) in
+          let before : rate * min n (q * b) ≤ rate * min m (q * b) = mul-le-mul-left rate
+          (let z : min n (q * b) ≤ min m (q * b) = omega arith in z) in
           omega (arith, r .rises (n - q * b) (m - q * b) q (omega arith));
       slow = λ n m d q h.
           let a : ℕ = min m (q * b) - min n (q * b) in
           let e : ℕ = m - q * b - (n - q * b) in
-          let before : rate * min m (q * b) ≤ rate * (min n (q * b) + a) = mul-le-mul-left rate (let z : min m (q * b) ≤ min n (q * b) + a = omega arith in z) in
+          let before : rate * min m (q * b) ≤ rate * (min n (q * b) + a) = mul-le-mul-left rate
+          (let z : min m (q * b) ≤ min n (q * b) + a = omega arith in z) in
           let past : g (m - q * b) q ≤ g (n - q * b) q + c * e = r .slow (n - q * b) (m - q * b) e q (omega arith) in
           let both : rate * a + c * e ≤ c * d = two-rates rate c a e d l (shared n m d (q * b) h) in
           joined rate c (min m (q * b)) (min n (q * b)) a (g (m - q * b) q) (g (n - q * b) q) e d before past both;

@@ -27,7 +27,8 @@ of-load-minute p m h =
     record {
       exactly = whole-exactly (TimePasses p) 1 m h;
       notAbove = h .notAbove;
-      close = ⊎-elim (λ (e : m ≡ 360). inr (e, subst (λ (k : ℕ). PassesUpTo (TimePasses p) k 1) e (h .notAbove))) (λ (l : m < 360). inl (load-next-above p m h l)) (eq-or-lt-of-le (h .most));
+      close = ⊎-elim (λ (e : m ≡ 360). inr (e, subst (λ (k : ℕ). PassesUpTo (TimePasses p) k 1) e (h .notAbove)))
+          (λ (l : m < 360). inl (load-next-above p m h l)) (eq-or-lt-of-le (h .most));
       following = λ ne. ⊎-elim (λ (e : m ≡ 360). absurd (ne e)) (λ (l : m < 360). load-next-above p m h l) (eq-or-lt-of-le (h .most));
       most = h .most;
       exposure = not-enlarged p;

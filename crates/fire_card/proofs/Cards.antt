@@ -86,7 +86,8 @@ card-length p load =
     both-most (line cardHead (1 ∷ []) ++ charLines p) (ratingLines load ei) 168 64
     (both-most (line cardHead (1 ∷ [])) (charLines p) 16 152 (length-line cardHead (1 ∷ []))
     (both-most (charLine p 30 ++ charLine p 60 ++ charLine p 90) (charLine p 120) 114 38
-    (both-most (charLine p 30 ++ charLine p 60) (charLine p 90) 76 38 (both-most (charLine p 30) (charLine p 60) 38 38 (char 30) (char 60)) (char 90)) (char 120)))
+    (both-most (charLine p 30 ++ charLine p 60) (charLine p 90) 76 38
+    (both-most (charLine p 30) (charLine p 60) 38 38 (char 30) (char 60)) (char 90)) (char 120)))
     (both-most (loadLine ++ eiLine) reiLine 49 15
     (both-most loadLine eiLine 24 25 (length-line loadHead (load ∷ gradeOf load .minutes ∷ [])) (length-line eiHead (ei ∷ gradeOf ei .minutes ∷ [])))
     (length-line reiHead (reiOf load ei .minutes ∷ [])))

@@ -33,7 +33,8 @@ every-or-fails passes deepest = first (passes 0) refl
 module _ (passes : ℕ → Bool) (tenths : ℕ → ℕ → ℕ)
     (later : (n q r s : ℕ) → 0 < q → 0 < s → n * s ≤ r * q → tenths n q ≤ tenths r s)
     (speed : ℕ) (before : (n q : ℕ) → 0 < q → tenths (suc n) q ≤ tenths (suc speed * n + speed) (suc speed * q)) where
-  pub next-above : (unit m : ℕ) → 0 < unit → IsWholePart (PassesBy passes tenths) unit m → m < 360 * unit → AboveFailure (PassesBy passes tenths) (suc m) unit
+  pub next-above : (unit m : ℕ) → 0 < unit → IsWholePart (PassesBy passes tenths) unit m → m < 360 * unit → AboveFailure
+      (PassesBy passes tenths) (suc m) unit
   next-above unit m h w l = go (every-or-fails passes (tenths (suc m) unit))
     where
       go : EveryTenthPasses passes (tenths (suc m) unit) ⊎ FailsBy passes (tenths (suc m) unit) → AboveFailure (PassesBy passes tenths) (suc m) unit

@@ -20,7 +20,8 @@ use Rattle.load.specs.Exposure.{InsideOne, EachInsideOne, NotEnlarged}
 counts-higher : (depth deeper top : ℕ) (l : Lamella) → depth ≤ deeper → counts deeper top l ≡ true → counts depth top l ≡ true
 counts-higher depth deeper top l h e = go (along l) e
   where
-    go : (a : Bool) → (a && leb leastRemainder (top + l .thickness - max deeper top)) ≡ true → (a && leb leastRemainder (top + l .thickness - max depth top)) ≡ true
+    go : (a : Bool) → (a && leb leastRemainder (top + l .thickness - max deeper top)) ≡ true
+        → (a && leb leastRemainder (top + l .thickness - max depth top)) ≡ true
     go true e =
         let k = leb-true leastRemainder (top + l .thickness - max deeper top) e in
         le-leb leastRemainder (top + l .thickness - max depth top) (omega arith)

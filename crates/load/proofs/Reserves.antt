@@ -19,7 +19,8 @@ use Rattle.load.specs.Answers.{reserveOf}
 use Rattle.load.proofs.WholeParts.{whole-exactly}
 
 difference : (a b : ℕ) → pos a -ℤ pos b ≡ subℕ a b
-difference a zero = ap pos (let e : a + 0 ≡ a - 0 = omega arith in e) ∙ ap (λ (t : Bool). cond t (negsuc (0 - suc a)) (pos (a - 0))) (sym (le-ltb a 0 (omega arith)))
+difference a zero = ap pos (let e : a + 0 ≡ a - 0 = omega arith in e)
+    ∙ ap (λ (t : Bool). cond t (negsuc (0 - suc a)) (pos (a - 0))) (sym (le-ltb a 0 (omega arith)))
 difference a (suc b) = refl
 
 -- where the panel lasts as long as wanted, the reserve is the minutes left over
@@ -33,7 +34,8 @@ reserve-short load wanted h =
     difference load wanted ∙ ap (λ (t : Bool). cond t (negsuc (wanted - suc load)) (pos (load - wanted))) (lt-ltb load wanted h)
 
 -- either way, a claim about the reserve
-by-cases : (P : ℤ → Type 0) (load wanted : ℕ) → (wanted ≤ load → P (pos (load - wanted))) → (load < wanted → P (negsuc (wanted - suc load))) → P (reserveOf wanted load)
+by-cases : (P : ℤ → Type 0) (load wanted : ℕ) → (wanted ≤ load → P (pos (load - wanted)))
+    → (load < wanted → P (negsuc (wanted - suc load))) → P (reserveOf wanted load)
 by-cases P load wanted over short = go (decLe wanted load)
   where
     go : Dec (wanted ≤ load) → P (reserveOf wanted load)
@@ -53,7 +55,8 @@ reserve-sign load wanted =
     (λ l. (λ z. absurd (z .le), λ k. absurd (let e : ⊥ = omega arith in e)))
 
 -- and so exactly when the panel passes through the wanted minute
-pub reserve-meaning : (p : Panel) (load wanted : ℕ) → IsLoadMinute p load → wanted ≤ 360 → (pos 0 ≤ℤ reserveOf wanted load) ↔ PassesUpTo (TimePasses p) wanted 1
+pub reserve-meaning : (p : Panel) (load wanted : ℕ) → IsLoadMinute p load → wanted ≤ 360
+    → (pos 0 ≤ℤ reserveOf wanted load) ↔ PassesUpTo (TimePasses p) wanted 1
 reserve-meaning p load wanted h k =
     let sign = reserve-sign load wanted in
     let exactly = whole-exactly (TimePasses p) 1 load h wanted k in

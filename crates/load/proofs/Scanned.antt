@@ -130,4 +130,5 @@ scan-is-load-minute p h =
     rise k = tenths-later p k 1 (suc k) 1 (omega arith) (omega arith) (omega arith)
 
     start : EveryTenthPasses (depthPasses p) (tenthsAt p 0 1)
-    start = subst (EveryTenthPasses (depthPasses p)) (sym (tenths-zero p 1 (omega arith))) (λ k l. ap (depthPasses p) (let z : k ≡ 0 = omega arith in z) ∙ h)
+    start = subst (EveryTenthPasses (depthPasses p)) (sym (tenths-zero p 1 (omega arith)))
+        (λ k l. ap (depthPasses p) (let z : k ≡ 0 = omega arith in z) ∙ h)

@@ -37,7 +37,8 @@ load-unused p q h r s a b =
     by-unique (load-minute-unique q)
     (transport (λ i. AnswerBy (load-minute-same p q h i) (refusal-unused p q h i) Refused Minute r) a) b
 
-pub reserve-unused : (p q : Panel) → SameUsed p q → (wanted : ℕ) (r s : ReserveAnswer) → ReserveAnswered p wanted r → ReserveAnswered q wanted s → r ≡ s
+pub reserve-unused : (p q : Panel) → SameUsed p q → (wanted : ℕ) (r s : ReserveAnswer) → ReserveAnswered p wanted r
+    → ReserveAnswered q wanted s → r ≡ s
 reserve-unused p q h wanted r s a b =
     let value : ℕ → ReserveAnswer = λ load. By (reserveOf wanted load) in
     by-unique (load-minute-unique q)

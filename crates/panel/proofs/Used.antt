@@ -38,7 +38,8 @@ pub lamellaeOf-nine :
     → lamellaeOf (nine (map (λ (l : Lamella). l .direction) ls)) (nine (map (λ (l : Lamella). l .thickness) ls)) (length ls) ≡ ls
 unfolding lamellaeOf
 lamellaeOf-nine ls =
-    firsts-getD (λ (i : ℕ). lamella (getD (nine (map (λ (l : Lamella). l .direction) ls)) i 0) (getD (nine (map (λ (l : Lamella). l .thickness) ls)) i 0))
+    firsts-getD (λ (i : ℕ). lamella (getD (nine (map (λ (l : Lamella). l .direction) ls)) i 0)
+    (getD (nine (map (λ (l : Lamella). l .thickness) ls)) i 0))
     ls (lamella 0 0)
     (λ i h.
     ap₂ lamella (getD-nine (λ (l : Lamella). l .direction) ls i (lamella 0 0) refl h)

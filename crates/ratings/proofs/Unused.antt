@@ -26,4 +26,5 @@ ei-grade-unused p q h = rw (refusal-unused p q h, ei-minute-same p q h) refl
 pub rei-grade-unused : (p q : Panel) → SameUsed p q → (r s : GradeAnswer) → BothGraded p r → BothGraded q s → r ≡ s
 rei-grade-unused p q h r s a b =
     by-unique (load-minute-unique q)
-    (transport (λ i. AnswerBy (load-minute-same p q h i) (refusal-unused p q h i) Refused (λ (load : ℕ). Of (reiOf load (ei-minute-same p q h i))) r) a) b
+    (transport (λ i. AnswerBy (load-minute-same p q h i) (refusal-unused p q h i) Refused
+    (λ (load : ℕ). Of (reiOf load (ei-minute-same p q h i))) r) a) b

@@ -58,7 +58,8 @@ module _ (p : Panel) (least : 1 ≤ p .count) (most : p .count ≤ 9) where
       let k = length (boardsOf (p .cladding)) in
       none-or (badCount (lamellaCount (encode p))) (not (eqb (length (encode p)) (18 + 4 * k + 3 * lamellaCount (encode p))))
       (ap badCount (count-there p) ∙ e)
-      (ap not (eq-eqb (length (encode p)) (18 + 4 * k + 3 * lamellaCount (encode p)) (length-encode p ∙ ap (λ (n : ℕ). 18 + 4 * k + 3 * n) (sym (count-there p)))))
+      (ap not (eq-eqb (length (encode p)) (18 + 4 * k + 3 * lamellaCount (encode p))
+      (length-encode p ∙ ap (λ (n : ℕ). 18 + 4 * k + 3 * n) (sym (count-there p)))))
 
 pub encode-accepted : (p : Panel) → panelRefusal p ≡ 0 → recordRefusal (encode p) ≡ 0
 unfolding recordRefusal encode

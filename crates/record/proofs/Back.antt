@@ -70,7 +70,8 @@ encode-back b h s =
     let front : join frontWidths (recordLength (panelOf b) ∷ 1 ∷ []) ≡ places b 0 3 =
     ap₂ (λ (l v : ℕ). join frontWidths (l ∷ v ∷ [])) (length-back b s) (sym (s .version)) ∙ join-fields frontWidths b h 0
     in
-    let head : join headWidths (number t 0 1 ∷ number t 1 1 ∷ number t 2 1 ∷ number t 3 2 ∷ number t 5 4 ∷ length (boardsOf (claddingAt c t)) ∷ number t 10 4 ∷ []) ≡ places b 3 14 =
+    let head : join headWidths (number t 0 1 ∷ number t 1 1 ∷ number t 2 1 ∷ number t 3 2 ∷ number t 5 4 ∷ length
+    (boardsOf (claddingAt c t)) ∷ number t 10 4 ∷ []) ≡ places b 3 14 =
     ap (λ (k : ℕ). join headWidths (number t 0 1 ∷ number t 1 1 ∷ number t 2 1 ∷ number t 3 2 ∷ number t 5 4 ∷ k ∷ number t 10 4 ∷ []))
     (boards-counted c t (s .boards))
     ∙ join-fields headWidths t (drop-bytes b h 3) 0

@@ -37,7 +37,8 @@ pub read-written :
     → decode (take (recordLength p) (spaceAfter p space)) ≡ reading 0 (cleared p)
 unfolding spaceAfter
 read-written p space e =
-    ap (λ (l : List ℕ). decode (take (recordLength p) l)) (sym (answered (writeRefusal p space) (λ (n : ℕ). space) (encode p ++ drop (recordLength p) space) e))
+    ap (λ (l : List ℕ). decode (take (recordLength p) l))
+    (sym (answered (writeRefusal p space) (λ (n : ℕ). space) (encode p ++ drop (recordLength p) space) e))
     ∙ ap decode (take-at (encode p) (drop (recordLength p) space) (recordLength p) (length-encode p))
     ∙ decode-encode p (write-taken p space e)
 

@@ -83,7 +83,8 @@ record-lamellae b h =
     let u = lamellaPart b in
     let ls = lamellaeIn u n in
     let least : min n 9 ≡ n = omega arith in
-    ap (λ (k : ℕ). lamellaeOf (nine (map (λ (l : Lamella). l .direction) (lamellaeIn u k))) (nine (map (λ (l : Lamella). l .thickness) (lamellaeIn u k))) n) least
+    ap (λ (k : ℕ). lamellaeOf (nine (map (λ (l : Lamella). l .direction) (lamellaeIn u k)))
+    (nine (map (λ (l : Lamella). l .thickness) (lamellaeIn u k))) n) least
     ∙ ap (lamellaeOf (nine (map (λ (l : Lamella). l .direction) ls)) (nine (map (λ (l : Lamella). l .thickness) ls))) (sym (length-lamellaeIn u n))
     ∙ lamellaeOf-nine ls
 
@@ -95,7 +96,8 @@ record-panel b e =
     let head = h .1 .1 in
     let boards = h .1 .1 .1 .1 .1 .1 in
     let lamella = h .1 .1 .1 .1 .1 .1 .1 .1 .1 .1 in
-    let ten = or-none (badCount (lamellaCount b)) (not (eqb (length b) (18 + 4 * boardCount b + 3 * lamellaCount b))) (h .1 .1 .1 .1 .1 .1 .1 .1 .1 .0) in
+    let ten = or-none (badCount (lamellaCount b)) (not (eqb (length b) (18 + 4 * boardCount b + 3 * lamellaCount b)))
+    (h .1 .1 .1 .1 .1 .1 .1 .1 .1 .0) in
     none-first (panelLines (panelOf b))
     (head .0, (head .1 .0, (head .1 .1 .0, (boards .0, (boards .1 .0, (boards .1 .1 .0, (ten .0, lamella)))))))
     0

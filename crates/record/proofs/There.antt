@@ -60,7 +60,8 @@ lamella-there (l ∷ ls) (suc i) d h =
 
 pub lamellae-there : (ls : List Lamella) → lamellaeIn (lamellaBytes ls) (length ls) ≡ ls
 unfolding lamellaeIn
-lamellae-there ls = firsts-getD (λ (i : ℕ). lamellaFrom (fields lamellaWidths (lamellaBytes ls) (3 * i))) ls (lamella 0 0) (λ i h. lamella-there ls i (lamella 0 0) h)
+lamellae-there ls = firsts-getD (λ (i : ℕ). lamellaFrom (fields lamellaWidths (lamellaBytes ls) (3 * i))) ls (lamella 0 0)
+    (λ i h. lamella-there ls i (lamella 0 0) h)
 
 -- the boards are read after any head
 pub cladding-there :

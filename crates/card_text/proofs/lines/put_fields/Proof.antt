@@ -14,7 +14,8 @@ use Rattle.card_text.proofs.lines.put_fields.Statement.{statement}
 use Rattle.card_text.proofs.lines.put_fields.Tie as tie
 
 abbrev Inv-loop : tie.InvT-loop
-Inv-loop out₀ at numbers end₀ i₀ out end i = (i ≤ length numbers) × ((length out ≡ length out₀) × Put out₀ at (fields (take i numbers)) (11 * i) end out)
+Inv-loop out₀ at numbers end₀ i₀ out end i = (i ≤ length numbers) × ((length out ≡ length out₀) × Put out₀ at
+    (fields (take i numbers)) (11 * i) end out)
 
 abbrev μ-loop : tie.MeasureT-loop
 μ-loop out₀ at numbers end₀ i₀ out end i = length numbers - i
@@ -30,8 +31,14 @@ loop-again c =
     let ns = now (c6 .before .before .before .args .numbers) in
     let i = c6 .loop .i in
     let h : i < length ns = omega arith in
-    let most : 11 * (i + 1) ≡ 11 * i + 11 = omega arith in
-    (omega arith, (c2 .put-field .kept .0 ∙ c6 .loop .inv .1 .0, rw (fields-take ns i, most) (put-then (c6 .loop .inv .1 .1) (c2 .put-field .ensures))))
+    let most : 11 * (i + 1) ≡ 11 * i + 11 = omega arith in (
+      omega arith,
+      (
+        c2 .put-field .kept .0 ∙ c6 .loop .inv .1 .0,
+        rw (fields-take ns i, most)
+            (put-then (c6 .loop .inv .1 .1) (c2 .put-field .ensures)),
+      ),
+    )
 
 returns : tie.Need-returns Inv-loop μ-loop
 returns c =

@@ -32,7 +32,8 @@ returns-3 c =
     let i = f .before .before in
     let r = i .before .before in
     let a = r .before .before .args in
-    table-filled (a .p) (now (a .out)) (f .fill .last .1 .0) (sym (r .panel-refusal .ensures) ∙ i .before .if1 .left) (i .if2 .left) (f .fill .ensures)
+    table-filled (a .p) (now (a .out)) (f .fill .last .1 .0) (sym (r .panel-refusal .ensures) ∙ i .before .if1 .left)
+    (i .if2 .left) (f .fill .ensures)
 
 pub depth-table-spec : {M : Type 1} → statement M
 depth-table-spec =

@@ -13,7 +13,8 @@ returns-2 : tie.Need-returns-2
 returns-2 c =
     let r = c .before .before in
     let a = r .before .args in
-    minute-open (a .p) (a .minute) (r .panel-refusal .result) (c .line-or .result) (r .panel-refusal .ensures) (c .before .if1 .left) (c .line-or .ensures)
+    minute-open (a .p) (a .minute) (r .panel-refusal .result) (c .line-or .result) (r .panel-refusal .ensures)
+    (c .before .if1 .left) (c .line-or .ensures)
 
 pub minute-refusal-spec : {M : Type 1} → statement M
 minute-refusal-spec =

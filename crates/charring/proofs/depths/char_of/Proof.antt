@@ -16,7 +16,8 @@ returns c =
     let m = u .before in
     let s = m .before .before .before in
     let f = s .args .f in
-    let under = u .twice-run .ensures .0 ∙ ap (λ (k : ℕ). 2 * f .slow * k) (m .smaller .ensures .0 ∙ ap₂ (λ (x y : ℕ). min x y) (m .before .before .beyond .ensures .0) (m .before .beyond2 .ensures .0)) in
+    let under = u .twice-run .ensures .0 ∙ ap (λ (k : ℕ). 2 * f .slow * k)
+    (m .smaller .ensures .0 ∙ ap₂ (λ (x y : ℕ). min x y) (m .before .before .beyond .ensures .0) (m .before .beyond2 .ensures .0)) in
     let since = r .twice-run2 .ensures .0 ∙ ap (λ (k : ℕ). 2 * f .plain * k) (b .beyond3 .ensures .0) in
     let after = w .walk .ensures .0 ∙ ap (λ (k : ℕ). charred (way (s .args .p)) k 1) since in
     record {

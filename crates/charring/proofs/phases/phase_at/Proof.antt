@@ -19,7 +19,8 @@ returns-2 c =
     let h = i .before in
     let f = h .before .before in
     let a = f .before .args in
-    is-untouched (a .p) (f .fire-of .result) (a .minute) (h .char-of .result) (f .fire-of .ensures .0) (h .char-of .ensures) (i .if1 .left) (c .if2 .taken)
+    is-untouched (a .p) (f .fire-of .result) (a .minute) (h .char-of .result) (f .fire-of .ensures .0) (h .char-of .ensures)
+    (i .if1 .left) (c .if2 .taken)
 
 returns-3 : tie.Need-returns-3
 returns-3 c =
@@ -28,7 +29,8 @@ returns-3 c =
     let h = i .before in
     let f = h .before .before in
     let a = f .before .args in
-    is-under (a .p) (f .fire-of .result) (a .minute) (h .char-of .result) (f .fire-of .ensures .0) (h .char-of .ensures) (i .if1 .left) (j .if2 .left) (c .if3 .taken)
+    is-under (a .p) (f .fire-of .result) (a .minute) (h .char-of .result) (f .fire-of .ensures .0) (h .char-of .ensures)
+    (i .if1 .left) (j .if2 .left) (c .if3 .taken)
 
 returns-4 : tie.Need-returns-4
 returns-4 c =
@@ -40,7 +42,8 @@ returns-4 c =
     let f = h .before .before in
     let a = f .before .args in
     c .phase-on .ensures
-    ∙ is-after (a .p) (f .fire-of .result) (a .minute) (h .char-of .result) (f .fire-of .ensures .0) (h .char-of .ensures) (i .if1 .left) (j .if2 .left) (k .if3 .left)
+    ∙ is-after (a .p) (f .fire-of .result) (a .minute) (h .char-of .result) (f .fire-of .ensures .0) (h .char-of .ensures)
+    (i .if1 .left) (j .if2 .left) (k .if3 .left)
     (c .before .twice-run .result) (c .before .twice-run .ensures .0 ∙ ap (λ (t : ℕ). 2 * f .fire-of .result .plain * t) (b .beyond .ensures .0))
 
 pub phase-at-spec : {M : Type 1} → statement M

@@ -54,8 +54,10 @@ returns c =
     let s = l .before .before in
     let h : l .loop .i + 1 < s .args .p .count = omega arith in
     c .phase-in .ensures
-    ∙ onward-stop (s .args .p) (s .args .x) (l .loop .i) (l .loop .line) (l .loop .from) (l .loop .end) (l .loop .left) _ (l .loop .inv .1) h (omega arith)
-    (d .before .fast-part .result) (d .settled-part .result) (d .before .before .if2 .taken) (d .before .fast-part .ensures .0) (d .settled-part .ensures .0) (c .before .if3 .taken)
+    ∙ onward-stop (s .args .p) (s .args .x) (l .loop .i) (l .loop .line) (l .loop .from) (l .loop .end) (l .loop .left) _
+    (l .loop .inv .1) h (omega arith)
+    (d .before .fast-part .result) (d .settled-part .result) (d .before .before .if2 .taken) (d .before .fast-part .ensures .0)
+    (d .settled-part .ensures .0) (c .before .if3 .taken)
 
 line-end-requires : tie.Need-line-end-requires Inv-loop μ-loop
 line-end-requires c κs =
@@ -74,8 +76,10 @@ loop-again c =
     let s = l .before .before in
     let h : l .loop .i + 1 < s .args .p .count = omega arith in (
       omega arith,
-      onward-more (s .args .p) (s .args .x) (l .loop .i) (l .loop .line) (l .loop .from) (l .loop .end) (l .loop .left) _ (l .loop .inv .1) h (omega arith)
-          (d .before .fast-part .result) (d .settled-part .result) _ (c .line-end .result) (d .before .before .if2 .taken) (d .before .fast-part .ensures .0) (d .settled-part .ensures .0)
+      onward-more (s .args .p) (s .args .x) (l .loop .i) (l .loop .line) (l .loop .from) (l .loop .end) (l .loop .left) _
+          (l .loop .inv .1) h (omega arith)
+          (d .before .fast-part .result) (d .settled-part .result) _ (c .line-end .result) (d .before .before .if2 .taken)
+          (d .before .fast-part .ensures .0) (d .settled-part .ensures .0)
           (c .before .if3 .left) (omega arith) (c .line-end .ensures)
           (omega (arith, line-within (s .args .p) (l .loop .i) (s .pre .0) (l .loop .inv .1 .ends) (omega arith))),
     )
@@ -86,7 +90,8 @@ loop-again-2 c =
     let s = l .before .before in
     let h : l .loop .i + 1 < s .args .p .count = omega arith in (
       omega arith,
-      onward-skip (s .args .p) (s .args .x) (l .loop .i) (l .loop .line) (l .loop .from) (l .loop .end) (l .loop .left) _ (l .loop .inv .1) h (omega arith) (c .if2 .left),
+      onward-skip (s .args .p) (s .args .x) (l .loop .i) (l .loop .line) (l .loop .from) (l .loop .end) (l .loop .left) _
+          (l .loop .inv .1) h (omega arith) (c .if2 .left),
     )
 
 phase-in-requires-2 : tie.Need-phase-in-requires-2 Inv-loop μ-loop
@@ -98,7 +103,8 @@ returns-2 c =
     let s = l .before .before in
     let h : l .loop .i + 1 ≡ s .args .p .count = omega arith in
     c .phase-in2 .ensures
-    ∙ onward-last (s .args .p) (s .args .x) (l .loop .i) (l .loop .line) (l .loop .from) (l .loop .end) (l .loop .left) (c .before .fast-part2 .result) (s .args .f .back)
+    ∙ onward-last (s .args .p) (s .args .x) (l .loop .i) (l .loop .line) (l .loop .from) (l .loop .end) (l .loop .left)
+    (c .before .fast-part2 .result) (s .args .f .back)
     (l .loop .inv .1) h (s .pre .1 .0 .0 .back) (c .before .fast-part2 .ensures .0)
 
 pub phase-on-spec : {M : Type 1} → statement M

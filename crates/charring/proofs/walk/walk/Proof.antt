@@ -41,7 +41,8 @@ loop-again c =
     let s = l .before .before in
     let h : l .loop .i + 1 < s .args .p .count = omega arith in (
       omega arith,
-      walk-more (s .args .p) (s .args .x) (l .loop .i) (l .loop .line) _ (l .loop .s) (c .pass .result) (l .loop .inv .1) h (omega arith) (c .pass .ensures),
+      walk-more (s .args .p) (s .args .x) (l .loop .i) (l .loop .line) _ (l .loop .s) (c .pass .result) (l .loop .inv .1) h
+          (omega arith) (c .pass .ensures),
     )
 
 cross-requires : tie.Need-cross-requires Inv-loop μ-loop
@@ -54,7 +55,8 @@ returns c =
     let l = c .before .before .before in
     let s = l .before .before in
     let h : l .loop .i + 1 ≡ s .args .p .count = omega arith in (
-      walk-end (s .args .p) (s .args .x) (l .loop .i) (l .loop .line) (s .args .f .back) (l .loop .s) (c .cross .result) (l .loop .inv .1) h (s .pre .1 .0 .0 .back) (c .cross .ensures),
+      walk-end (s .args .p) (s .args .x) (l .loop .i) (l .loop .line) (s .args .f .back) (l .loop .s) (c .cross .result)
+          (l .loop .inv .1) h (s .pre .1 .0 .0 .back) (c .cross .ensures),
       omega (arith, c .cross .ensures .bounds .gained),
     )
 

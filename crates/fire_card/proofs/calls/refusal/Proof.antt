@@ -13,15 +13,19 @@ use Rattle.fire_card.proofs.calls.refusal.Tie as tie
 
 slice-aggregate-deliver : tie.Need-slice-aggregate-deliver
 slice-aggregate-deliver c =
-    put-count (c .before .before .put-line .ensures) (length-line refusalHead (c .before .before .before .before .before .before .before .args .n ∷ []))
+    put-count (c .before .before .put-line .ensures)
+    (length-line refusalHead (c .before .before .before .before .before .before .before .args .n ∷ []))
 
 returns : tie.Need-returns
 returns c =
     let l = c .before .before .before .before .before .before in
     let a = l .before .before .before .before .before .args in
     let d = c .before .before .deliver in
-    let t = put-text (l .put-line .ensures) (length-line refusalHead (a .n ∷ [])) in
-    (d .ensures .0 ∙ ap (λ (text : List ℕ). textAnswer text (now (a .out))) t, d .ensures .1 ∙ ap (λ (text : List ℕ). textAfter text (now (a .out))) t)
+    let t = put-text (l .put-line .ensures) (length-line refusalHead (a .n ∷ [])) in (
+      d .ensures .0 ∙ ap (λ (text : List ℕ). textAnswer text (now (a .out))) t,
+      d .ensures .1
+          ∙ ap (λ (text : List ℕ). textAfter text (now (a .out))) t,
+    )
 
 pub refusal-spec : {M : Type 1} → statement M
 refusal-spec =

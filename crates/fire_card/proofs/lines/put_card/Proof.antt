@@ -22,7 +22,8 @@ returns c =
     record {
       load = m .result;
       is = m .ensures .0;
-      put = put-then (put-then (c10 .put-line .ensures) (c6 .put-chars .ensures)) (put-same (ap (ratingLines (m .result)) (e .ei-minute-of .ensures .0)) (c .before .before .put-ratings .ensures));
+      put = put-then (put-then (c10 .put-line .ensures) (c6 .put-chars .ensures))
+          (put-same (ap (ratingLines (m .result)) (e .ei-minute-of .ensures .0)) (c .before .before .put-ratings .ensures));
     }
 
 pub put-card-spec : {M : Type 1} → statement M

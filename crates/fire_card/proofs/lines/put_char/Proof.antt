@@ -13,7 +13,8 @@ returns : tie.Need-returns
 returns c =
     let t = c .before .before .before .before .before .before in
     let m = t .before in
-    put-same (ap₂ (λ (char depth : ℕ). line charHead (m .before .before .args .minute ∷ char ∷ depth ∷ [])) (m .micrometres-in .ensures) (t .tenths-in .ensures))
+    put-same (ap₂ (λ (char depth : ℕ). line charHead (m .before .before .args .minute ∷ char ∷ depth ∷ []))
+    (m .micrometres-in .ensures) (t .tenths-in .ensures))
     (c .before .before .put-line .ensures)
 
 pub put-char-spec : {M : Type 1} → statement M

@@ -8,7 +8,8 @@ returns : tie.Need-returns
 returns c =
     let c6 = c .before .before .before .before .before .before in
     let c10 = c6 .before .before .before .before in
-    put-then (put-then (put-then (c10 .before .before .before .before .put-char .ensures) (c10 .put-char2 .ensures)) (c6 .put-char3 .ensures)) (c .before .before .put-char4 .ensures)
+    put-then (put-then (put-then (c10 .before .before .before .before .put-char .ensures) (c10 .put-char2 .ensures))
+    (c6 .put-char3 .ensures)) (c .before .before .put-char4 .ensures)
 
 pub put-chars-spec : {M : Type 1} → statement M
 put-chars-spec =

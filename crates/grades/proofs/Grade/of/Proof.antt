@@ -51,7 +51,8 @@ returns-9 c =
 returns-10 : tie.Need-returns-10
 unfolding greatestTo
 returns-10 c =
-    grade-between 15 20 tt refl (c .before .before .before .before .before .before .before .before .before .before .args .minute) (omega arith) (omega arith)
+    grade-between 15 20 tt refl (c .before .before .before .before .before .before .before .before .before .before .args .minute)
+    (omega arith) (omega arith)
 
 returns-11 : tie.Need-returns-11
 unfolding greatestTo

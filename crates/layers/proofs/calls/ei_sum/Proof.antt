@@ -19,4 +19,5 @@ returns-2 c = let-through Refused (c .before .before .panel-refusal .ensures) (c
 pub ei-sum-spec : {M : Type 1} → statement M
 ei-sum-spec =
     tie.close
-    (tie.spec (λ c κs. search needs) returns (λ c κs. layers-fit (c .before .before .args .p) (sym (c .before .panel-refusal .ensures) ∙ c .if1 .left)) returns-2)
+    (tie.spec (λ c κs. search needs) returns (λ c κs. layers-fit (c .before .before .args .p)
+    (sym (c .before .panel-refusal .ensures) ∙ c .if1 .left)) returns-2)

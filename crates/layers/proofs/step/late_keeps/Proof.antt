@@ -15,7 +15,11 @@ mul-result-3 : tie.Need-mul-result-3
 mul-result-3 c =
     let n : c .args .n ≤ 15001 = search needs in
     let s : c .args .s ≤ 200000 = search needs in
-    omega (arith, times (4 * c .args .n * c .args .n) (60004 * 15001) (c .args .s) 200000 (times (4 * c .args .n) 60004 (c .args .n) 15001 (omega arith) n) s)
+    omega (
+      arith,
+      times (4 * c .args .n * c .args .n) (60004 * 15001) (c .args .s) 200000
+          (times (4 * c .args .n) 60004 (c .args .n) 15001 (omega arith) n) s,
+    )
 
 mul-result-4 : tie.Need-mul-result-4
 mul-result-4 c =

@@ -29,10 +29,14 @@ loop-again-2 c =
 returns : tie.Need-returns Inv-loop μ-loop
 returns c =
     let e : c .before .loop .beyond ≡ c .before .loop .n + 1 = omega arith in
-    let l : c .before .loop .n ≤ c .before .before .args .t = omega arith in
-    (late-found (c .before .before .args .s) (c .before .before .args .t) (c .before .loop .n) (c .before .before .pre .1 .1) (c .before .loop .inv .1 .1 .0) (rw e at (c .before .loop .inv .1 .1 .1)) l, l)
+    let l : c .before .loop .n ≤ c .before .before .args .t = omega arith in (
+      late-found (c .before .before .args .s) (c .before .before .args .t) (c .before .loop .n) (c .before .before .pre .1 .1)
+          (c .before .loop .inv .1 .1 .0) (rw e at (c .before .loop .inv .1 .1 .1)) l,
+      l,
+    )
 
 pub late-time-spec : {M : Type 1} → statement M
 late-time-spec =
     tie.close
-    (tie.spec Inv-loop μ-loop (λ c. omega arith) loop-holds (λ c. omega arith) (λ c. omega arith) (λ c. omega arith) (λ c κs. omega arith) (λ c. omega arith) loop-again (λ c. omega arith) loop-again-2 returns)
+    (tie.spec Inv-loop μ-loop (λ c. omega arith) loop-holds (λ c. omega arith) (λ c. omega arith) (λ c. omega arith)
+    (λ c κs. omega arith) (λ c. omega arith) loop-again (λ c. omega arith) loop-again-2 returns)

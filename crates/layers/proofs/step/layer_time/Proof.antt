@@ -23,8 +23,11 @@ cast-result c =
 returns : tie.Need-returns
 returns c =
     let t = c .position .result in
-    let j : c .before .args .joint ≤ 100 = search needs in
-    (ap (λ (k : ℕ). k * c .before .args .joint / 100) (c .position .ensures .0), omega (arith, c .position .ensures .1, times t t (c .before .args .joint) 100 (le-refl t) j))
+    let j : c .before .args .joint ≤ 100 = search needs in (
+      ap (λ (k : ℕ). k * c .before .args .joint / 100) (c .position .ensures .0),
+      omega
+          (arith, c .position .ensures .1, times t t (c .before .args .joint) 100 (le-refl t) j),
+    )
 
 pub layer-time-spec : {M : Type 1} → statement M
 layer-time-spec =

@@ -13,8 +13,11 @@ returns c = (rw (positioned, le-leb (2 * c .before .args .s) (c .before .args .t
 
 returns-2 : tie.Need-returns-2
 unfolding positioned
-returns-2 c =
-    (rw (positioned, lt-leb (2 * c .before .before .args .s) (c .before .before .args .t) (c .before .if1 .left)) (c .late-time .ensures .0), c .late-time .ensures .1)
+returns-2 c = (
+  rw (positioned, lt-leb (2 * c .before .before .args .s) (c .before .before .args .t) (c .before .if1 .left))
+      (c .late-time .ensures .0),
+  c .late-time .ensures .1,
+)
 
 pub position-spec : {M : Type 1} → statement M
 position-spec =

@@ -44,4 +44,5 @@ returns c =
 pub ei-sum-of-spec : {M : Type 1} → statement M
 ei-sum-of-spec =
     tie.close
-    (tie.spec (λ c. search needs) (λ c κs. search needs) protected-requires (λ c. search needs) (λ c. search needs) at-requires with-layer-requires returns)
+    (tie.spec (λ c. search needs) (λ c κs. search needs) protected-requires (λ c. search needs)
+    (λ c. search needs) at-requires with-layer-requires returns)

@@ -12,7 +12,8 @@ use Rattle.layers.proofs.sums.protected.Statement.{statement}
 use Rattle.layers.proofs.sums.protected.Tie as tie
 
 abbrev Inv-loop : tie.InvT-loop
-Inv-loop s n thicknesses sum₀ i₀ sum i = (i ≤ n) × ((sum ≤ 30000 + 15000 * i) × ((gs : List ℕ) → sum ≡ protectedAfter s (map wood (lamellaeOf gs thicknesses i))))
+Inv-loop s n thicknesses sum₀ i₀ sum i = (i ≤ n) × ((sum ≤ 30000 + 15000 * i) × ((gs : List ℕ) → sum ≡ protectedAfter s
+    (map wood (lamellaeOf gs thicknesses i))))
 
 abbrev μ-loop : tie.MeasureT-loop
 μ-loop s n thicknesses sum₀ i₀ sum i = n - i
@@ -47,8 +48,11 @@ loop-again c =
 
 returns : tie.Need-returns Inv-loop μ-loop
 returns c =
-    let e : c .before .loop .i ≡ c .before .before .args .n = omega arith in
-    ((λ gs. c .before .loop .inv .1 .1 gs ∙ ap (λ (k : ℕ). protectedAfter (c .before .before .args .s) (map wood (lamellaeOf gs (c .before .before .args .t2) k))) e), omega arith)
+    let e : c .before .loop .i ≡ c .before .before .args .n = omega arith in (
+      (λ gs. c .before .loop .inv .1 .1 gs ∙ ap (λ (k : ℕ). protectedAfter (c .before .before .args .s)
+          (map wood (lamellaeOf gs (c .before .before .args .t2) k))) e),
+      omega arith,
+    )
 
 pub protected-spec : {M : Type 1} → statement M
 protected-spec =

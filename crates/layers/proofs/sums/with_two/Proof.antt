@@ -9,8 +9,11 @@ use Rattle.layers.proofs.sums.with_two.Tie as tie
 
 returns : tie.Need-returns
 unfolding protectedAfter
-returns c =
-    (c .with-board2 .ensures .0 ∙ ap (λ (k : ℕ). withProtection k (board (c .before .before .args .inner))) (c .before .with-board .ensures .0), omega arith)
+returns c = (
+  c .with-board2 .ensures .0 ∙ ap (λ (k : ℕ). withProtection k (board (c .before .before .args .inner)))
+      (c .before .with-board .ensures .0),
+  omega arith,
+)
 
 pub with-two-spec : {M : Type 1} → statement M
 with-two-spec =

@@ -17,7 +17,8 @@ returns c =
     let a = args .a in
     let b = args .b in
     ap₂ (λ (x y : Bool). x && y) (c .before .same-cladding .ensures)
-    (c .same-lamellae .ensures ∙ ap (λ (n : ℕ). sameLamellae (lamellae a) (lamellaeOf (b .directions) (b .thicknesses) n)) (c .before .before .if1 .taken))
+    (c .same-lamellae .ensures ∙ ap (λ (n : ℕ). sameLamellae (lamellae a) (lamellaeOf (b .directions) (b .thicknesses) n))
+    (c .before .before .if1 .taken))
 
 returns-2 : tie.Need-returns-2
 returns-2 c =
@@ -26,7 +27,8 @@ returns-2 c =
     let b = args .b in
     let unequal : sameLamellae (lamellae a) (lamellae b) ≡ false =
     sameLamellae-unequal (lamellae a) (lamellae b)
-    (λ e. c .if1 .left (sym (length-lamellaeOf (a .directions) (a .thicknesses) (a .count)) ∙ e ∙ length-lamellaeOf (b .directions) (b .thicknesses) (b .count)))
+    (λ e. c .if1 .left (sym (length-lamellaeOf (a .directions) (a .thicknesses) (a .count)) ∙ e ∙ length-lamellaeOf
+    (b .directions) (b .thicknesses) (b .count)))
     in
     sym (ap (λ (t : Bool). sameCladding (a .cladding) (b .cladding) && t) unequal ∙ and-false (sameCladding (a .cladding) (b .cladding)))
 

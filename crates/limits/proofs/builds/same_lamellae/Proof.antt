@@ -36,7 +36,8 @@ loop-again c =
       omega arith,
       rw (add-one)
           (ap₂ (λ (a b : Bool). a && b) (c .before .before .loop .inv .1) (c .same-lamella .ensures)
-          ∙ sym (sameLamellae-more (lamellaeOf gs ts i) (lamellaeOf hs us i) (lamella (getD gs i 0) (getD ts i 0)) (lamella (getD hs i 0) (getD us i 0)) e)),
+          ∙ sym (sameLamellae-more (lamellaeOf gs ts i) (lamellaeOf hs us i) (lamella (getD gs i 0) (getD ts i 0))
+          (lamella (getD hs i 0) (getD us i 0)) e)),
     )
 
 returns : tie.Need-returns Inv-loop μ-loop

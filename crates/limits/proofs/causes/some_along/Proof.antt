@@ -26,8 +26,11 @@ loop-holds c = (omega arith, λ ts. refl)
 
 loop-again : tie.Need-loop-again Inv-loop μ-loop
 unfolding lamellaeOf
-loop-again c =
-    (omega arith, λ ts. rw (add-one, some-more) (ap (λ (t : Bool). t || eqb (getD (c .before .before .args .t1) (c .before .loop .i) 0) 1) (c .before .loop .inv .1 ts)))
+loop-again c = (
+  omega arith,
+  λ ts. rw (add-one, some-more)
+      (ap (λ (t : Bool). t || eqb (getD (c .before .before .args .t1) (c .before .loop .i) 0) 1) (c .before .loop .inv .1 ts)),
+)
 
 returns : tie.Need-returns Inv-loop μ-loop
 returns c =

@@ -32,8 +32,13 @@ add-sum c = let h : Fits w16 (getD (c .before .before .args .t1) (c .before .loo
 
 loop-again : tie.Need-loop-again Inv-loop μ-loop
 loop-again c =
-    let h : Fits w16 (getD (c .before .before .args .t1) (c .before .loop .i) 0) = search needs in
-    (omega arith, omega arith, λ gs. rw add-one (ap (λ (k : ℕ). k + getD (c .before .before .args .t1) (c .before .loop .i) 0) (c .before .loop .inv .2 gs) ∙ sym (thickness-more gs (c .before .before .args .t1) (c .before .loop .i))))
+    let h : Fits w16 (getD (c .before .before .args .t1) (c .before .loop .i) 0) = search needs in (
+      omega arith,
+      omega arith,
+      λ gs. rw add-one
+          (ap (λ (k : ℕ). k + getD (c .before .before .args .t1) (c .before .loop .i) 0) (c .before .loop .inv .2 gs) ∙ sym
+          (thickness-more gs (c .before .before .args .t1) (c .before .loop .i))),
+    )
 
 returns : tie.Need-returns Inv-loop μ-loop
 returns c =

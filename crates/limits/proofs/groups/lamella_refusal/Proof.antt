@@ -12,11 +12,13 @@ use Rattle.limits.proofs.groups.lamella_refusal.Tie as tie
 
 returns : tie.Need-returns
 returns c =
-    said (middleLines (c .before .before .args .p)) (pick (badSection (c .before .before .args .p)) 13 0) (c .before .lamellae-or-none .result) (c .before .lamellae-or-none .ensures) (c .if1 .taken)
+    said (middleLines (c .before .before .args .p)) (pick (badSection (c .before .before .args .p)) 13 0)
+    (c .before .lamellae-or-none .result) (c .before .lamellae-or-none .ensures) (c .if1 .taken)
 
 depth-passes-requires : tie.Need-depth-passes-requires
 depth-passes-requires c κs =
-    section-fits (c .before .before .args .p) (c .before .before .pre) (clear (middleLines (c .before .before .args .p)) tt (c .before .lamellae-or-none .result) (c .before .lamellae-or-none .ensures) (c .if1 .left))
+    section-fits (c .before .before .args .p) (c .before .before .pre)
+    (clear (middleLines (c .before .before .args .p)) tt (c .before .lamellae-or-none .result) (c .before .lamellae-or-none .ensures) (c .if1 .left))
 
 returns-2 : tie.Need-returns-2
 returns-2 c =

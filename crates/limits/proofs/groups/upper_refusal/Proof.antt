@@ -13,7 +13,8 @@ returns c =
     let p = c .before .before .before .before .args .p in
     c .head-or .ensures
     ∙ ap (firstOr (headLines p))
-    (c .before .boards-or .ensures ∙ ap (firstOr (boardLines p)) (c .before .before .line-or .ensures ∙ ap (λ (t : Bool). pick t 10 0) (c .before .before .before .bad-count .ensures)))
+    (c .before .boards-or .ensures ∙ ap (firstOr (boardLines p))
+    (c .before .before .line-or .ensures ∙ ap (λ (t : Bool). pick t 10 0) (c .before .before .before .bad-count .ensures)))
 
 pub upper-refusal-spec : {M : Type 1} → statement M
 upper-refusal-spec =

@@ -11,7 +11,8 @@ use Rattle.load.proofs.calls.reserve_of.Tie as tie
 sub-result : tie.Need-sub-result
 sub-result c =
     let a = c .args in
-    subst (SFits w32) (sym (bits-difference (a .load) (a .wanted) (c .pre .0) (c .pre .1))) (reserve-fits (a .load) (a .wanted) (c .pre .0) (c .pre .1))
+    subst (SFits w32) (sym (bits-difference (a .load) (a .wanted) (c .pre .0) (c .pre .1)))
+    (reserve-fits (a .load) (a .wanted) (c .pre .0) (c .pre .1))
 
 returns : tie.Need-returns
 returns c =

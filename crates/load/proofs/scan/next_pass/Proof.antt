@@ -20,14 +20,16 @@ returns : tie.Need-returns Inv-loop μ-loop
 returns c =
     let l = c .before .before .before in
     let a = l .before .args in
-    sym (next-stop (depthPasses (a .p)) (l .loop .depth) (a .to) (c .before .before .loop-test .taken) (sym (c .before .depth-passes .ensures) ∙ not-true (c .before .depth-passes .result) (c .if1 .taken)))
+    sym (next-stop (depthPasses (a .p)) (l .loop .depth) (a .to) (c .before .before .loop-test .taken)
+    (sym (c .before .depth-passes .ensures) ∙ not-true (c .before .depth-passes .result) (c .if1 .taken)))
     ∙ l .loop .inv
 
 loop-again : tie.Need-loop-again Inv-loop μ-loop
 loop-again c =
     let l = c .before .before .before in
     let a = l .before .args in
-    next-on (depthPasses (a .p)) (l .loop .depth) (a .to) (c .before .before .loop-test .taken) (sym (c .before .depth-passes .ensures) ∙ not-false (c .before .depth-passes .result) (c .if1 .left))
+    next-on (depthPasses (a .p)) (l .loop .depth) (a .to) (c .before .before .loop-test .taken)
+    (sym (c .before .depth-passes .ensures) ∙ not-false (c .before .depth-passes .result) (c .if1 .left))
     ∙ l .loop .inv
 
 returns-2 : tie.Need-returns-2 Inv-loop μ-loop

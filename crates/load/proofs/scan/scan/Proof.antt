@@ -43,7 +43,8 @@ returns c =
     let l = n .before .before in
     let p = l .before .before .before .args .p in
     let i = l .loop .inv in
-    let stop = sym (between p (l .loop .minute) (l .loop .depth) (n .tenths-in2 .result) (c .before .next-pass .result) (i .1 .0) (n .tenths-in2 .ensures) (c .before .next-pass .ensures)) ∙ not-true (c .before .next-pass .result) (c .if1 .taken) in
+    let stop = sym (between p (l .loop .minute) (l .loop .depth) (n .tenths-in2 .result) (c .before .next-pass .result) (i .1 .0)
+    (n .tenths-in2 .ensures) (c .before .next-pass .ensures)) ∙ not-true (c .before .next-pass .result) (c .if1 .taken) in
     (sym (last-stop (depthPasses p) (λ (m : ℕ). tenthsAt p m 1) (l .loop .minute) 360 (n .before .loop-test .taken) stop) ∙ i .1 .1, i .0)
 
 loop-again : tie.Need-loop-again Inv-loop μ-loop
@@ -52,17 +53,28 @@ loop-again c =
     let l = n .before .before in
     let p = l .before .before .before .args .p in
     let i = l .loop .inv in
-    let on = sym (between p (l .loop .minute) (l .loop .depth) (n .tenths-in2 .result) (c .before .next-pass .result) (i .1 .0) (n .tenths-in2 .ensures) (c .before .next-pass .ensures)) ∙ not-false (c .before .next-pass .result) (c .if1 .left) in
-    (omega arith, (n .tenths-in2 .ensures, last-on (depthPasses p) (λ (m : ℕ). tenthsAt p m 1) (l .loop .minute) 360 (n .before .loop-test .taken) on ∙ i .1 .1))
+    let on = sym (between p (l .loop .minute) (l .loop .depth) (n .tenths-in2 .result) (c .before .next-pass .result) (i .1 .0)
+    (n .tenths-in2 .ensures) (c .before .next-pass .ensures)) ∙ not-false (c .before .next-pass .result) (c .if1 .left) in (
+      omega arith,
+      (
+        n .tenths-in2 .ensures,
+        last-on (depthPasses p) (λ (m : ℕ). tenthsAt p m 1) (l .loop .minute) 360
+            (n .before .loop-test .taken) on ∙ i .1 .1,
+      ),
+    )
 
 returns-2 : tie.Need-returns-2 Inv-loop μ-loop
 returns-2 c =
     let i = c .before .loop .inv in
-    let e : c .before .loop .minute ≡ 360 = omega arith in
-    (sym (ended (depthPasses (c .before .before .before .before .args .p)) (λ (m : ℕ). tenthsAt (c .before .before .before .before .args .p) m 1) (c .before .loop .minute) 360 e) ∙ i .1 .1, i .0)
+    let e : c .before .loop .minute ≡ 360 = omega arith in (
+      sym (ended (depthPasses (c .before .before .before .before .args .p))
+          (λ (m : ℕ). tenthsAt (c .before .before .before .before .args .p) m 1) (c .before .loop .minute) 360 e) ∙ i .1 .1,
+      i .0,
+    )
 
 pub scan-spec : {M : Type 1} → statement M
 scan-spec =
     tie.close
-    (tie.spec Inv-loop μ-loop (λ c κs. search needs) (λ c κs. (c .before .pre .1, (c .fire-of .ensures, omega arith))) loop-holds (λ c. omega arith) (λ c. omega arith) tenths-in-requires-2
+    (tie.spec Inv-loop μ-loop (λ c κs. search needs) (λ c κs. (c .before .pre .1, (c .fire-of .ensures, omega arith))) loop-holds
+    (λ c. omega arith) (λ c. omega arith) tenths-in-requires-2
     (λ c κs. search needs) returns (λ c. omega arith) (λ c. omega arith) loop-again returns-2)

@@ -24,7 +24,8 @@ returns c =
     let read = c .before .before .before in
     let b = now (read .before .before .args .s) in
     ap (reading (n .result)) (c .blank-panel .ensures)
-    ∙ turned-back (λ (k : ℕ). reading k blank) _ (n .ensures ∙ ap (λ (p : Panel). refusal (recordLines b p)) (read .panel-of .ensures)) (c .before .if1 .taken)
+    ∙ turned-back (λ (k : ℕ). reading k blank) _
+    (n .ensures ∙ ap (λ (p : Panel). refusal (recordLines b p)) (read .panel-of .ensures)) (c .before .if1 .taken)
 
 returns-2 : tie.Need-returns-2
 unfolding decode recordRefusal

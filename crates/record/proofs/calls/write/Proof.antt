@@ -26,7 +26,8 @@ returns-2 c =
     let r = taken .before in
     let a = r .before .before .args in
     answers-refused (a .p) (now (a .out)) 14
-    (write-short (a .p) (now (a .out)) (sym (r .panel-refusal .ensures) ∙ taken .if1 .left) (rw (c .before .record-length .ensures .0) at (c .if2 .taken))) (eqb-false 14 0 refl)
+    (write-short (a .p) (now (a .out)) (sym (r .panel-refusal .ensures) ∙ taken .if1 .left)
+    (rw (c .before .record-length .ensures .0) at (c .if2 .taken))) (eqb-false 14 0 refl)
 
 put-record-requires : tie.Need-put-record-requires
 put-record-requires c κs =

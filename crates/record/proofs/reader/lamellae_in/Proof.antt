@@ -14,7 +14,8 @@ use Rattle.record.proofs.reader.lamellae_in.Statement.{statement}
 use Rattle.record.proofs.reader.lamellae_in.Tie as tie
 
 abbrev Inv-loop : tie.InvT-loop
-Inv-loop u n directions₀ thicknesses₀ i₀ directions thicknesses i = (i ≤ n) × ((directions ≡ nine (map (λ (l : Lamella). l .direction) (lamellaeIn u i))) × (thicknesses ≡ nine (map (λ (l : Lamella). l .thickness) (lamellaeIn u i))))
+Inv-loop u n directions₀ thicknesses₀ i₀ directions thicknesses i = (i ≤ n) × ((directions ≡ nine
+    (map (λ (l : Lamella). l .direction) (lamellaeIn u i))) × (thicknesses ≡ nine (map (λ (l : Lamella). l .thickness) (lamellaeIn u i))))
 
 abbrev μ-loop : tie.MeasureT-loop
 μ-loop u n directions₀ thicknesses₀ i₀ directions thicknesses i = n - i
@@ -31,7 +32,8 @@ loop-again c =
     let less : i < 9 = omega arith in (
       omega arith,
       (
-        ap₂ (λ (l : List ℕ) (x : ℕ). set l i x) (l .loop .inv .1 .0) (c .before .get8 .ensures) ∙ filled-more (λ (l : Lamella). l .direction) u i less,
+        ap₂ (λ (l : List ℕ) (x : ℕ). set l i x) (l .loop .inv .1 .0) (c .before .get8 .ensures) ∙ filled-more
+            (λ (l : Lamella). l .direction) u i less,
         ap₂ (λ (l : List ℕ) (x : ℕ). set l i x) (l .loop .inv .1 .1) (c .get16 .ensures) ∙ filled-more (λ (l : Lamella). l .thickness) u i less,
       ),
     )

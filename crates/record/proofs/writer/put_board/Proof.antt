@@ -19,9 +19,11 @@ returns c =
     let at = c13 .args .at in
     let b = c13 .args .b in
     let v₁ : List ℕ = bytes 1 (b .kind) in
-    let e₂ = then-put l (c10 .put8 .last .0) (c6 .put16 .last .0) at v₁ (at + 1) (bytes 2 (b .thickness)) (c10 .put8 .ensures) refl (c6 .put16 .ensures) in
+    let e₂ = then-put l (c10 .put8 .last .0) (c6 .put16 .last .0) at v₁ (at + 1) (bytes 2 (b .thickness))
+    (c10 .put8 .ensures) refl (c6 .put16 .ensures) in
     let v₂ : List ℕ = v₁ ++ bytes 2 (b .thickness) in
-    then-put l (c6 .put16 .last .0) (c .before .before .put82 .last .0) at v₂ (at + 3) (bytes 1 (b .joint)) e₂ refl (c .before .before .put82 .ensures)
+    then-put l (c6 .put16 .last .0) (c .before .before .put82 .last .0) at v₂ (at + 3) (bytes 1 (b .joint)) e₂ refl
+    (c .before .before .put82 .ensures)
 
 pub put-board-spec : {M : Type 1} → statement M
 put-board-spec =

@@ -23,7 +23,8 @@ returns c =
     let at = c29 .args .at in
     let p = c29 .args .p in
     let v₁ : List ℕ = bytes 1 (p .bond) in
-    let e₂ = then-put l (c26 .put8 .last .0) (c22 .put82 .last .0) at v₁ (at + 1) (bytes 1 (p .rate)) (c26 .put8 .ensures) refl (c22 .put82 .ensures) in
+    let e₂ = then-put l (c26 .put8 .last .0) (c22 .put82 .last .0) at v₁ (at + 1) (bytes 1 (p .rate)) (c26 .put8 .ensures) refl
+    (c22 .put82 .ensures) in
     let v₂ : List ℕ = v₁ ++ bytes 1 (p .rate) in
     let e₃ = then-put l (c22 .put82 .last .0) (c18 .put83 .last .0) at v₂ (at + 2) (bytes 1 (p .gap)) e₂ refl (c18 .put83 .ensures) in
     let v₃ : List ℕ = v₂ ++ bytes 1 (p .gap) in
@@ -33,7 +34,8 @@ returns c =
     let v₅ : List ℕ = v₄ ++ bytes 4 (p .moment) in
     let e₆ = then-put l (c10 .put32 .last .0) (c6 .put84 .last .0) at v₅ (at + 9) (bytes 1 (c29 .args .boards)) e₅ refl (c6 .put84 .ensures) in
     let v₆ : List ℕ = v₅ ++ bytes 1 (c29 .args .boards) in
-    then-put l (c6 .put84 .last .0) (c .before .before .put322 .last .0) at v₆ (at + 10) (bytes 4 (p .«failure_time»)) e₆ refl (c .before .before .put322 .ensures)
+    then-put l (c6 .put84 .last .0) (c .before .before .put322 .last .0) at v₆ (at + 10) (bytes 4 (p .«failure_time»)) e₆ refl
+    (c .before .before .put322 .ensures)
 
 pub put-head-spec : {M : Type 1} → statement M
 put-head-spec =

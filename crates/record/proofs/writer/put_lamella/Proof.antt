@@ -17,7 +17,8 @@ returns c =
     let l = now (c9 .args .out) in
     let at = c9 .args .at in
     let v₁ : List ℕ = bytes 1 (c9 .args .direction) in
-    then-put l (c6 .put8 .last .0) (c .before .before .put16 .last .0) at v₁ (at + 1) (bytes 2 (c9 .args .thickness)) (c6 .put8 .ensures) refl (c .before .before .put16 .ensures)
+    then-put l (c6 .put8 .last .0) (c .before .before .put16 .last .0) at v₁ (at + 1) (bytes 2 (c9 .args .thickness))
+    (c6 .put8 .ensures) refl (c .before .before .put16 .ensures)
 
 pub put-lamella-spec : {M : Type 1} → statement M
 put-lamella-spec =

@@ -19,7 +19,8 @@ use Rattle.record.proofs.writer.put_lamellae.Statement.{statement}
 use Rattle.record.proofs.writer.put_lamellae.Tie as tie
 
 abbrev Inv-loop : tie.InvT-loop
-Inv-loop out₀ at count directions thicknesses i₀ out i = (i ≤ count) × ((length out ≡ length out₀) × (out ≡ sets out₀ at (lamellaBytes (lamellaeOf directions thicknesses i))))
+Inv-loop out₀ at count directions thicknesses i₀ out i = (i ≤ count) × ((length out ≡ length out₀) × (out ≡ sets out₀ at
+    (lamellaBytes (lamellaeOf directions thicknesses i))))
 
 abbrev μ-loop : tie.MeasureT-loop
 μ-loop out₀ at count directions thicknesses i₀ out i = count - i
@@ -46,7 +47,8 @@ loop-again c =
         then-put (now (args .out)) (l .loop .out) (put .last .0) (args .at) (lamellaBytes xs) (args .at + 3 * i)
             (join lamellaWidths (getD gs i 0 ∷ getD ts i 0 ∷ []))
             (l .loop .inv .1 .1) e (put .ensures)
-            ∙ ap (sets (now (args .out)) (args .at)) (sym (lamellaBytes-more xs x) ∙ ap (λ (k : ℕ). lamellaBytes (lamellaeOf gs ts k)) (sym (add-one i))),
+            ∙ ap (sets (now (args .out)) (args .at)) (sym (lamellaBytes-more xs x)
+            ∙ ap (λ (k : ℕ). lamellaBytes (lamellaeOf gs ts k)) (sym (add-one i))),
       ),
     )
 

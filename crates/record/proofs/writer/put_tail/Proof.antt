@@ -20,7 +20,8 @@ returns c =
     let at = c12 .args .at in
     let p = c12 .args .p in
     let v₁ : List ℕ = bytes 1 (p .count) in
-    then-put l (c6 .put8 .last .0) (c .before .before .put-lamellae .last .0) at v₁ (at + 1) (lamellaBytes (lamellae p)) (c6 .put8 .ensures) refl (c .before .before .put-lamellae .ensures)
+    then-put l (c6 .put8 .last .0) (c .before .before .put-lamellae .last .0) at v₁ (at + 1) (lamellaBytes (lamellae p))
+    (c6 .put8 .ensures) refl (c .before .before .put-lamellae .ensures)
 
 pub put-tail-spec : {M : Type 1} → statement M
 put-tail-spec =

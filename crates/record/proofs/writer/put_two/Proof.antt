@@ -21,7 +21,8 @@ returns c =
     let at = c9 .args .at in
     let bytesOf : Board → List ℕ = λ b. join boardWidths (b .kind ∷ b .thickness ∷ b .joint ∷ []) in
     let v₁ : List ℕ = bytesOf (c9 .args .outer) in
-    then-put l (c6 .put-board .last .0) (c .before .before .put-board2 .last .0) at v₁ (at + 4) (bytesOf (c9 .args .inner)) (c6 .put-board .ensures) refl (c .before .before .put-board2 .ensures)
+    then-put l (c6 .put-board .last .0) (c .before .before .put-board2 .last .0) at v₁ (at + 4) (bytesOf (c9 .args .inner))
+    (c6 .put-board .ensures) refl (c .before .before .put-board2 .ensures)
 
 pub put-two-spec : {M : Type 1} → statement M
 put-two-spec =
