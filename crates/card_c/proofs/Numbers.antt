@@ -8,19 +8,33 @@ use lib.ListN.{length}
 use mir.Syntax.{w32}
 use mir.Val.{SFits, toZ}
 use mir.Facts.{toZ-pos}
-use Rattle.limits.specs.Lines.{answer}
+use Rattle.limits.specs.Lines.{Line, answer}
 use Rattle.fire_card.specs.declared.CardAnswer.{CardAnswer}
 use Rattle.fire_card.specs.declared.CardAnswer.the-variants.{Written, Refused}
-use Rattle.card_c.specs.Exported.{Short}
+use Rattle.fire_card.specs.Answers.{textRefusal, textAnswer}
+use Rattle.card_c.specs.Exported.{exported, Short}
 
 -- a text no longer than the longest card is answered by a short number
-pub short-text : (n : ℕ) (text : List ℕ) → length text ≤ 232 → Short (answer n Refused (Written (length text)))
-short-text zero text h = h
-short-text (suc n) text h = tt
+pub short-text : (table : List Line) (text space : List ℕ) → length text ≤ 232 → Short (textAnswer table text space)
+unfolding textAnswer
+short-text table text space h = go (textRefusal table text space)
+  where
+    go : (n : ℕ) → Short (answer n Refused (Written (length text)))
+    go zero = h
+    go (suc n) = tt
 
 -- and so are its bytes
 pub short-bytes : (a : CardAnswer) (k : ℕ) → Short a → a ≡ Written k → k ≤ 232
 short-bytes a k h e = subst Short e h
+
+-- a number that is not negative is that of bytes written
+pub written-bytes : (table : List Line) (text space : List ℕ) (k : ℕ) → exported (textAnswer table text space) ≡ pos k → textAnswer table text space ≡ Written k
+unfolding textAnswer
+written-bytes table text space k = go (textRefusal table text space)
+  where
+    go : (n : ℕ) → exported (answer n Refused (Written (length text))) ≡ pos k → answer n Refused (Written (length text)) ≡ Written k
+    go zero e = let same : length text ≡ k = cc in ap Written same
+    go (suc n) e = absurd (let z : _≡_ {A = ℕ} 0 1 = cc in let w : ⊥ = omega arith in w)
 
 -- a refusal's number taken from 0, as the machine takes it
 pub bits-minus : (n : ℕ) → n < 256 → pos 0 -ℤ toZ w32 n ≡ negℤ (pos n)

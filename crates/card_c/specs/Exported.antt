@@ -1,11 +1,8 @@
 -- The answers of the card's calls as one number, for programs in C.
 use Prim.Native.Nat.{ℕ, _≤_}
-use mathlib.Core.Path.{_≡_}
-use mathlib.Core.List.{List}
 use lib.IntN.{ℤ, pos, negℤ}
 use Rattle.fire_card.specs.declared.CardAnswer.{CardAnswer}
 use Rattle.fire_card.specs.declared.CardAnswer.the-variants.{Written, Refused}
-use Rattle.fire_card.specs.Answers.{CardWritten}
 
 -- the bytes written, or minus the refusal's number
 abbrev pub exported : CardAnswer → ℤ
@@ -16,9 +13,3 @@ exported (Refused n) = negℤ (pos n)
 abbrev pub Short : CardAnswer → Type 0
 Short (Written k) = k ≤ 232
 Short (Refused n) = Unit
-
--- what the card's function for C answers to the bytes b and a lent space, and what it leaves there
-pub record CardExported (b space : List ℕ) (r : ℤ) (left : List ℕ) : Type 0 where
-  pub answer : CardAnswer
-  pub written : CardWritten b space answer left
-  pub number : r ≡ exported answer

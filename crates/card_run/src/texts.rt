@@ -5,7 +5,7 @@ ghost use Prim.Native.Nat.{_≤_};
 ghost use lib.ListN.{length, take};
 ghost use Rattle.io.specs.Counts.{Counts};
 ghost use Rattle.fire_card.specs.Card.{refusalText};
-ghost use Rattle.fire_card.specs.Printed.{Printed};
+ghost use Rattle.fire_card.specs.Printed.{printedText};
 
 fn refusal_into(n: u8, out: &mut [u8]) -> usize
     requires { ⌜ 232 ≤ length (now out) ⌝ }
@@ -22,7 +22,7 @@ fn refusal_into(n: u8, out: &mut [u8]) -> usize
 pub fn text_for(bytes: &[u8], out: &mut [u8]) -> usize
     requires { ⌜ 232 ≤ length (now out) ⌝ }
     ensures { λ r. ⌜ Counts r (now (out .exit)) ⌝ }
-    ensures { λ r. ⌜ Printed (now (bytes .entry)) (take r (now (out .exit))) ⌝ }
+    ensures { λ r. ⌜ take r (now (out .exit)) ≡ printedText (now (bytes .entry)) ⌝ }
 {
     match fire_card::calls::card(bytes, out) {
         CardAnswer::Written(k) => k,

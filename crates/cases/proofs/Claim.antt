@@ -9,12 +9,13 @@ use Rattle.limits.specs.Refusals.{panelRefusal}
 use Rattle.charring.specs.Fires.{failureOf, k2, clad, firstEnd, linesFrom, bondLines, lineEnd}
 use Rattle.charring.specs.Stages.{stretches, way, charred}
 use Rattle.charring.specs.Depths.{charAt, effectiveAt}
-use Rattle.load.specs.Scan.{nextPass, lastPassing, loadScan, failsRightAfter}
+use Rattle.load.specs.LoadMinute.{everyFrom, timeTest}
+use Rattle.load.specs.FailureTests.{failsRightAfter}
 use Rattle.basic_times.specs.Rules.{basicTime}
 use Rattle.layers.specs.Layers.{protection, insulation, jointOf, positioned, withProtection, withInsulation, sumAfter, eiSum}
 use Rattle.cases.specs.Starred.{starred, EveryRowHolds}
 use Rattle.cases.proofs.Tested.{agree, all-tested}
 
 pub starred-hold : EveryRowHolds starred
-unfolding starred agree largest lamellaeOf thickness countedFrom total lowest highest sectionOf carries some panelRefusal basicTime protection insulation jointOf positioned withProtection withInsulation sumAfter eiSum failureOf k2 clad firstEnd linesFrom bondLines lineEnd stretches way charred charAt effectiveAt nextPass lastPassing loadScan failsRightAfter
+unfolding starred agree largest lamellaeOf thickness countedFrom total lowest highest sectionOf carries some panelRefusal basicTime protection insulation jointOf positioned withProtection withInsulation sumAfter eiSum failureOf k2 clad firstEnd linesFrom bondLines lineEnd stretches way charred charAt effectiveAt everyFrom timeTest failsRightAfter
 starred-hold = all-tested starred tt

@@ -1,23 +1,27 @@
 -- Each row of the table has a test that computes, and a row whose test is true holds: for any row, not only those of the table.
-use Prim.Native.Nat.{ℕ}
-use mathlib.Core.Path.{_≡_, subst}
+use Prim.Native.Nat.{ℕ, suc}
+use mathlib.Core.Path.{_≡_, refl}
 use mathlib.Core.List.{List, [], _∷_}
-use mathlib.Core.Bool.{Bool, true, _&&_}
-use lib.Dec.{T, eqb, eqb→eq}
-use Rattle.numbers.proofs.Booleans.{T-left, T-right}
+use mathlib.Core.Bool.{Bool, true, false, not, _&&_}
+use borrow.Author.Tests.{lt-ltb}
+use lib.Dec.{T, leb, ltb, eqb, leb→le, eqb→eq}
+use Rattle.numbers.proofs.Booleans.{T-true, T-false, T-left, T-right, not-both}
 use Rattle.panel.specs.declared.Panel.{Panel}
 use Rattle.limits.specs.Refusals.{panelRefusal}
-use Rattle.limits.proofs.Accepted.{accepted-passes}
-use Rattle.load.specs.Failure.{IsLoadMinute}
-use Rattle.load.specs.Scan.{loadScan, failsRightAfter}
-use Rattle.load.proofs.Scanned.{scan-is-load-minute}
+use Rattle.load.specs.LoadMinute.{timeTest, loadMinute}
+use Rattle.load.specs.FailureTests.{failsRightAfter}
+use Rattle.load.proofs.LoadMinutes.{load-last}
 use Rattle.load.proofs.ExactFailure.{exact-failure}
-use Rattle.cases.specs.Starred.{Case, gives, loadMinute, failureTime, Holds, EveryRowHolds}
+use Rattle.cases.specs.Starred.{Case, gives, bears, failureTime, Holds, EveryRowHolds}
 
--- a load minute is scanned for, and a failure time is tested by the depth reached then
+-- m minutes pass, and they are 360 or one more does not
+abbrev pub lastMinute : Panel → ℕ → Bool
+lastMinute p m = leb m 360 && timeTest p m 1 && not (ltb m 360 && timeTest p (suc m) 1)
+
+-- a failure time is tested by the depth reached then
 abbrev pub test : Case → Bool
 test (gives worked said) = eqb worked said
-test (loadMinute p m) = eqb (panelRefusal p) 0 && eqb (loadScan p) m
+test (bears p m) = eqb (panelRefusal p) 0 && lastMinute p m
 test (failureTime p n q) = failsRightAfter p n q
 
 -- every row's test is true
@@ -25,14 +29,25 @@ unfoldable pub agree : List Case → Bool
 agree [] = true
 agree (c ∷ cs) = test c && agree cs
 
-load-tested : (p : Panel) (m : ℕ) → panelRefusal p ≡ 0 → loadScan p ≡ m → (panelRefusal p ≡ 0) × IsLoadMinute p m
-load-tested p m accepted e = (accepted, subst (IsLoadMinute p) e (scan-is-load-minute p (accepted-passes p accepted)))
+last-minute : (p : Panel) (m : ℕ) → T (lastMinute p m) → loadMinute p ≡ m
+last-minute p m t =
+    let (a, b, c) = each (leb m 360) (timeTest p m 1) (not (ltb m 360 && timeTest p (suc m) 1)) t in
+    load-last p m (leb→le m 360 a) (T-true (timeTest p m 1) b)
+    (λ l. next (ltb m 360) (timeTest p (suc m) 1) (lt-ltb m 360 l) (T-false (ltb m 360 && timeTest p (suc m) 1) c))
+  where
+    each : (a b c : Bool) → T (a && b && c) → T a × T b × T c
+    each true true true t = (tt, tt, tt)
+
+    next : (a b : Bool) → a ≡ true → (a && b) ≡ false → b ≡ false
+    next true b e f = f
+    next false b e f = absurd (not-both false e refl)
 
 pub tested : (c : Case) → T (test c) → Holds c
 tested (gives worked said) t = eqb→eq worked said t
-tested (loadMinute p m) t =
-    load-tested p m (eqb→eq (panelRefusal p) 0 (T-left (eqb (panelRefusal p) 0) (eqb (loadScan p) m) t))
-    (eqb→eq (loadScan p) m (T-right (eqb (panelRefusal p) 0) (eqb (loadScan p) m) t))
+tested (bears p m) t = (
+  eqb→eq (panelRefusal p) 0 (T-left (eqb (panelRefusal p) 0) (lastMinute p m) t),
+  last-minute p m (T-right (eqb (panelRefusal p) 0) (lastMinute p m) t),
+)
 tested (failureTime p n q) t = exact-failure p n q t
 
 pub all-tested : (cs : List Case) → T (agree cs) → EveryRowHolds cs

@@ -10,7 +10,8 @@ use Rattle.panel.specs.Worked.{g, gFalling, recovers, oneBehindA, threeBehindA,
 use Rattle.section.specs.Tests.{depthPasses}
 use Rattle.limits.specs.Refusals.{panelRefusal}
 use Rattle.charring.specs.Depths.{charAt}
-use Rattle.load.specs.Failure.{TimePasses, IsFailureTime, IsLoadMinute}
+use Rattle.load.specs.Failure.{TimePasses, IsFailureTime}
+use Rattle.load.specs.LoadMinute.{loadMinute}
 use Rattle.basic_times.specs.Rules.{gypsumProtection, gypsumInsulation, woodProtection, woodInsulation}
 use Rattle.layers.specs.Layers.{eiSum}
 
@@ -19,14 +20,14 @@ pub data Case : Type 0 where
   -- a definition gives a number: what it gives, and what the document says
   gives : ℕ → ℕ → Case
   -- a panel is accepted, and its load minute R is so many minutes
-  loadMinute : Panel → ℕ → Case
+  bears : Panel → ℕ → Case
   -- a panel's failure time is exactly n/q minutes
   failureTime : Panel → ℕ → ℕ → Case
 
 -- what it is for a row to hold
 abbrev pub Holds : Case → Type 0
 Holds (gives worked said) = worked ≡ said
-Holds (loadMinute p m) = (panelRefusal p ≡ 0) × IsLoadMinute p m
+Holds (bears p m) = (panelRefusal p ≡ 0) × (loadMinute p ≡ m)
 Holds (failureTime p n q) = IsFailureTime (TimePasses p) n q
 
 -- every row of a table holds
@@ -60,10 +61,10 @@ starred =
     ∷ gives (passing (depthPasses (g 43056) 0)) 1
     ∷ gives (panelRefusal (g 43057)) 13
     -- "G, M 3,000: R 103 (exact 6,740/65); bond falling: 84. M 0: 138."
-    ∷ loadMinute (g 3000) 103
+    ∷ bears (g 3000) 103
     ∷ failureTime (g 3000) 6740 65
-    ∷ loadMinute (gFalling 3000) 84
-    ∷ loadMinute (g 0) 138
+    ∷ bears (gFalling 3000) 84
+    ∷ bears (g 0) 138
     -- "10 along, 60 across, 60 along, f 240, M 15,000: depth 7.0 mm does not pass, 7.1 does."
     ∷ gives (passing (depthPasses recovers 70)) 0
     ∷ gives (passing (depthPasses recovers 71)) 1

@@ -1,2 +1,1 @@
 pub mod LoadMinute
-pub mod Prints

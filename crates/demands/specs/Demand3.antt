@@ -3,13 +3,18 @@ use Prim.Native.Nat.{ℕ, suc, _*_, _≤_, _<_}
 use mathlib.Core.Path.{_≡_}
 use mathlib.Core.List.{List}
 use mathlib.Core.Logic.{_⊎_, _↔_}
+use lib.IntN.{pos}
+use lib.ListN.{take}
 use Rattle.panel.specs.declared.Panel.{Panel}
 use Rattle.record.specs.Layouts.{panelOf}
 use Rattle.record.specs.Refusals.{recordRefusal}
 use Rattle.load.specs.Failure.{TimePasses, PassesUpTo, NotAboveFailure, AboveFailure}
 use Rattle.load.specs.Exposure.{NotEnlarged}
 use Rattle.card_text.specs.Text.{after, firstNumber}
-use Rattle.fire_card.specs.Printed.{Printed}
+use Rattle.fire_card.specs.declared.CardAnswer.the-variants.{Written}
+use Rattle.fire_card.specs.Answers.{cardAnswer, cardAfter}
+use Rattle.fire_card.specs.Printed.{printedText}
+use Rattle.card_c.specs.Exported.{exported}
 
 -- the printed load minute: the number on the card's line R, which comes after five line feeds
 abbrev pub printedMinute : List ℕ → ℕ
@@ -30,7 +35,18 @@ pub record Demanded (p : Panel) (printed : ℕ) : Type 0 where
   -- "whichever two times are taken, fractions and times past failure included, more exposure never enlarges the remaining section"
   pub exposure : (n q r s : ℕ) → 0 < q → 0 < s → n * s ≤ r * q → NotEnlarged p n q r s
 
--- "For every accepted record, whatever lamellae, boards and moment it gives": of the bytes b of the record, and whatever text the
+-- "For every accepted record, whatever lamellae, boards and moment it gives": of the bytes b of the record, and the text that the
 -- program prints for them
 abbrev pub Demand3 : Type 0
-Demand3 = (b : List ℕ) → recordRefusal b ≡ 0 → (text : List ℕ) → Printed b text → Demanded (panelOf b) (printedMinute text)
+Demand3 = (b : List ℕ) → recordRefusal b ≡ 0 → Demanded (panelOf b) (printedMinute (printedText b))
+
+-- The same of the calls, whatever the length of the lent space: where the card call answers that it wrote k bytes, of the minute that
+-- then stands in the first k bytes of the space
+abbrev pub Demand3OfCall : Type 0
+Demand3OfCall =
+    (b space : List ℕ) (k : ℕ) → cardAnswer b space ≡ Written k → Demanded (panelOf b) (printedMinute (take k (cardAfter b space)))
+
+-- and where the function for C answers k, 0 or above
+abbrev pub Demand3OfC : Type 0
+Demand3OfC =
+    (b space : List ℕ) (k : ℕ) → exported (cardAnswer b space) ≡ pos k → Demanded (panelOf b) (printedMinute (take k (cardAfter b space)))

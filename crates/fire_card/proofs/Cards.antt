@@ -1,26 +1,21 @@
--- The card call: lines 1 to 13 come first, then the space for this very card.
+-- The card call: what is read from the bytes, and how long a card is at most.
 use Prim.Native.Nat.{ℕ, zero, suc, _+_, _≤_}
 use mathlib.Core.Path.{_≡_, refl, sym, ap, _∙_}
 use mathlib.Core.List.{List, [], _∷_, _++_}
 use lib.ListN.{length, length-append}
 use native.Mathlib.Omega.{arith}
 use Rattle.panel.specs.declared.Panel.{Panel}
-use Rattle.limits.specs.Lines.{refusal, answer}
-use Rattle.limits.proofs.FirstLine.{none-first, first-some, turned-back}
+use Rattle.limits.specs.Lines.{answer}
 use Rattle.record.specs.Layouts.{panelOf}
-use Rattle.record.specs.Refusals.{recordLines, recordRefusal}
+use Rattle.record.specs.Refusals.{recordRefusal}
 use Rattle.record.specs.Answers.{reading, blank, decode}
-use Rattle.record.proofs.Sound.{accepted-lines}
 use Rattle.layers.specs.Layers.{eiMinute}
 use Rattle.grades.specs.Grades.{gradeOf, reiOf}
 use Rattle.charring.specs.Depths.{micrometresAt, tenthsAt}
 use Rattle.card_text.specs.Text.{line}
 use Rattle.card_text.proofs.Lengths.{length-line}
-use Rattle.load.specs.Failure.{IsLoadMinute}
-use Rattle.fire_card.specs.declared.CardAnswer.{CardAnswer}
-use Rattle.fire_card.specs.declared.CardAnswer.the-variants.{Written, Refused}
+use Rattle.load.specs.LoadMinute.{loadMinute}
 use Rattle.fire_card.specs.Card.{cardHead, charHead, loadHead, eiHead, reiHead, charLine, charLines, ratingLines, cardText}
-use Rattle.fire_card.specs.Answers.{shortLine, over, textAnswer, textAfter, cardRefusal, CardWritten}
 
 -- What stands in a record
 
@@ -36,53 +31,15 @@ pub read-panel : (b : List ℕ) → recordRefusal b ≡ 0 → decode b .panel �
 unfolding decode
 read-panel b e = rw e refl
 
--- Refusals
-
--- a refused record is refused whatever the space
-pub card-turned : (b text space : List ℕ) → (recordRefusal b ≡ 0 → ⊥) → cardRefusal b text space ≡ recordRefusal b
-unfolding cardRefusal recordRefusal
-card-turned b text space ne = first-some (recordLines b (panelOf b)) (refusal (shortLine text space ∷ [])) ne
-
--- of an accepted one only the space is asked
-pub card-open : (b text space : List ℕ) → recordRefusal b ≡ 0 → cardRefusal b text space ≡ refusal (shortLine text space ∷ [])
-unfolding cardRefusal
-card-open b text space e = none-first (recordLines b (panelOf b)) (accepted-lines b e) (refusal (shortLine text space ∷ []))
-
-pub card-refused : (b space : List ℕ) (n : ℕ) → n ≡ recordRefusal b → (n ≡ 0 → ⊥) → CardWritten b space (Refused n) space
-card-refused b space n e ne =
-    let text = cardText (panelOf b) 0 in
-    let ne′ : recordRefusal b ≡ 0 → ⊥ = λ z. ne (e ∙ z) in
-    let t = e ∙ sym (card-turned b text space ne′) in
-    record {
-      load = 0;
-      is = λ z. absurd (ne′ z);
-      answered = turned-back Refused (Written (length text)) t ne;
-      after = turned-back (λ (k : ℕ). space) (over text space) t ne;
-    }
-
-pub card-delivered :
-    (b space left : List ℕ) (r : CardAnswer) (load : ℕ) → recordRefusal b ≡ 0 → IsLoadMinute (panelOf b) load
-    → r ≡ textAnswer (cardText (panelOf b) load) space → left ≡ textAfter (cardText (panelOf b) load) space → CardWritten b space r left
-unfolding textAnswer textAfter
-card-delivered b space left r load e is a l =
-    let text = cardText (panelOf b) load in
-    let t = sym (card-open b text space e) in
-    record {
-      load = load;
-      is = λ z. is;
-      answered = a ∙ ap (λ (n : ℕ). answer n Refused (Written (length text))) t;
-      after = l ∙ ap (λ (n : ℕ). answer n (λ (k : ℕ). space) (over text space)) t;
-    }
-
 -- Lengths
 
 both-most : (xs ys : List ℕ) (m n : ℕ) → length xs ≤ m → length ys ≤ n → length (xs ++ ys) ≤ m + n
 both-most xs ys m n h k = simp length-append (omega arith)
 
 -- the longest card
-pub card-length : (p : Panel) (load : ℕ) → length (cardText p load) ≤ 232
+pub card-length : (p : Panel) → length (cardText p) ≤ 232
 unfolding cardText
-card-length p load =
+card-length p =
     both-most (line cardHead (1 ∷ []) ++ charLines p) (ratingLines load ei) 168 64
     (both-most (line cardHead (1 ∷ [])) (charLines p) 16 152 (length-line cardHead (1 ∷ []))
     (both-most (charLine p 30 ++ charLine p 60 ++ charLine p 90) (charLine p 120) 114 38
@@ -92,6 +49,9 @@ card-length p load =
     (both-most loadLine eiLine 24 25 (length-line loadHead (load ∷ gradeOf load .minutes ∷ [])) (length-line eiHead (ei ∷ gradeOf ei .minutes ∷ [])))
     (length-line reiHead (reiOf load ei .minutes ∷ [])))
   where
+    load : ℕ
+    load = loadMinute p
+
     ei : ℕ
     ei = eiMinute p
 

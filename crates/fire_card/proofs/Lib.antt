@@ -1,2 +1,3 @@
-pub mod Cards
 pub mod Texts
+pub mod Cards
+pub mod Prints

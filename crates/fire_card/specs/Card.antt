@@ -6,6 +6,7 @@ use Rattle.panel.specs.declared.Panel.{Panel}
 use Rattle.charring.specs.Depths.{micrometresAt, tenthsAt}
 use Rattle.layers.specs.Layers.{eiMinute}
 use Rattle.grades.specs.Grades.{gradeOf, reiOf}
+use Rattle.load.specs.LoadMinute.{loadMinute}
 
 -- Line heads
 
@@ -48,9 +49,9 @@ abbrev pub ratingLines : ℕ → ℕ → List ℕ
 ratingLines load ei =
     line loadHead (load ∷ gradeOf load .minutes ∷ []) ++ line eiHead (ei ∷ gradeOf ei .minutes ∷ []) ++ line reiHead (reiOf load ei .minutes ∷ [])
 
--- the card of a panel whose load minute is `load`; "CARD has the version"
-unfoldable pub cardText : Panel → ℕ → List ℕ
-cardText p load = line cardHead (1 ∷ []) ++ charLines p ++ ratingLines load (eiMinute p)
+-- the card of a panel; "CARD has the version"
+unfoldable pub cardText : Panel → List ℕ
+cardText p = line cardHead (1 ∷ []) ++ charLines p ++ ratingLines (loadMinute p) (eiMinute p)
 
 -- "A refusal prints only `REFUSED` and its number"
 abbrev pub refusalText : ℕ → List ℕ

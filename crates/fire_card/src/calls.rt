@@ -4,13 +4,13 @@ use crate::lines::put_card;
 use card_text::lines::put_bytes;
 use card_text::lines::put_line;
 ghost use mathlib.Core.Path.{_≡_};
-ghost use Rattle.fire_card.specs.Card.{refusalText};
-ghost use Rattle.fire_card.specs.Answers.{CardWritten, textAnswer, textAfter};
+ghost use mathlib.Core.List.{[]};
+ghost use Rattle.fire_card.specs.Answers.{textAnswer, textAfter, cardAnswer, cardAfter, refusalAnswer, refusalAfter};
 
 // Copies a text into the lent space, where it fits.
 fn deliver(text: &[u8], out: &mut [u8]) -> CardAnswer
-    ensures { λ r. ⌜ r ≡ textAnswer (now (text .entry)) (now (out .entry)) ⌝ }
-    ensures { λ r. ⌜ now (out .exit) ≡ textAfter (now (text .entry)) (now (out .entry)) ⌝ }
+    ensures { λ r. ⌜ r ≡ textAnswer [] (now (text .entry)) (now (out .entry)) ⌝ }
+    ensures { λ r. ⌜ now (out .exit) ≡ textAfter [] (now (text .entry)) (now (out .entry)) ⌝ }
 {
     let n = text.len();
     if out.len() < n {
@@ -22,7 +22,8 @@ fn deliver(text: &[u8], out: &mut [u8]) -> CardAnswer
 
 // The card of a record.
 pub fn card(bytes: &[u8], out: &mut [u8]) -> CardAnswer
-    ensures { λ r. ⌜ CardWritten (now (bytes .entry)) (now (out .entry)) r (now (out .exit)) ⌝ }
+    ensures { λ r. ⌜ r ≡ cardAnswer (now (bytes .entry)) (now (out .entry)) ⌝ }
+    ensures { λ r. ⌜ now (out .exit) ≡ cardAfter (now (bytes .entry)) (now (out .entry)) ⌝ }
 {
     let reading = record::calls::read(bytes);
     if reading.refusal != 0 {
@@ -35,8 +36,8 @@ pub fn card(bytes: &[u8], out: &mut [u8]) -> CardAnswer
 
 // The text of a refusal.
 pub fn refusal(n: u8, out: &mut [u8]) -> CardAnswer
-    ensures { λ r. ⌜ r ≡ textAnswer (refusalText n) (now (out .entry)) ⌝ }
-    ensures { λ r. ⌜ now (out .exit) ≡ textAfter (refusalText n) (now (out .entry)) ⌝ }
+    ensures { λ r. ⌜ r ≡ refusalAnswer n (now (out .entry)) ⌝ }
+    ensures { λ r. ⌜ now (out .exit) ≡ refusalAfter n (now (out .entry)) ⌝ }
 {
     let mut space = [0u8; 19];
     let k = put_line(&mut space, 0, b"REFUSED", &[n as u32]);

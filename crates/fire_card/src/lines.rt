@@ -14,8 +14,7 @@ ghost use lib.ListN.{length};
 ghost use Rattle.card_text.specs.Stores.{Put};
 ghost use Rattle.limits.specs.Refusals.{panelRefusal};
 ghost use Rattle.charring.specs.Fits.{FireFits, FireOf, FireBounds};
-ghost use Rattle.fire_card.specs.Card.{charLine, charLines, ratingLines};
-ghost use Rattle.fire_card.specs.Answers.{CardPut};
+ghost use Rattle.fire_card.specs.Card.{charLine, charLines, ratingLines, cardText};
 
 fn put_char(out: &mut [u8], at: usize, p: Panel, f: Fire, minute: u32) -> usize
     requires { ⌜ FireFits p × (FireOf p f × FireBounds f) ⌝ }
@@ -40,6 +39,7 @@ fn put_chars(out: &mut [u8], at: usize, p: Panel) -> usize
 }
 
 fn put_ratings(out: &mut [u8], at: usize, load: u16, ei: u16) -> usize
+    requires { ⌜ (load ≤ 360) × (ei ≤ 360) ⌝ }
     requires { ⌜ at + 64 ≤ length (now out) ⌝ }
     ensures { λ r. ⌜ Put (now (out .entry)) at (ratingLines load ei) 64 r (now (out .exit)) ⌝ }
 {
@@ -55,7 +55,7 @@ fn put_ratings(out: &mut [u8], at: usize, load: u16, ei: u16) -> usize
 pub(crate) fn put_card(out: &mut [u8], p: Panel) -> usize
     requires { ⌜ panelRefusal p ≡ 0 ⌝ }
     requires { ⌜ 232 ≤ length (now out) ⌝ }
-    ensures { λ r. ⌜ CardPut p (now (out .entry)) r (now (out .exit)) ⌝ }
+    ensures { λ r. ⌜ Put (now (out .entry)) 0 (cardText p) 232 r (now (out .exit)) ⌝ }
 {
     let load = load_minute_of(p);
     let ei = ei_minute_of(p);

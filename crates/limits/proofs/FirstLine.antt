@@ -92,6 +92,42 @@ refusal-first (l ∷ ls) ne = go (l .fits) refl (refusal-first ls) ne
           number = f .number;
         }
 
+-- A table, then the lines of a call: any table, and any further lines
+
+above : (table further : List Line) → (refusal table ≡ 0 → ⊥) → refusal (table ++ further) ≡ refusal table
+above [] further ne = absurd (ne refl)
+above (l ∷ ls) further ne = go (l .fits) (above ls further) ne
+  where
+    go :
+        (c : Bool)
+        → ((refusal ls ≡ 0 → ⊥) → refusal (ls ++ further) ≡ refusal ls)
+        → (pick c (l .number) (refusal ls) ≡ 0 → ⊥)
+        → pick c (l .number) (refusal (ls ++ further)) ≡ pick c (l .number) (refusal ls)
+    go true rest k = refl
+    go false rest k = rest k
+
+past : (table further : List Line) → NoneFits table → refusal (table ++ further) ≡ refusal further
+past [] further h = refl
+past (l ∷ ls) further h = rw (h .0) (past ls further (h .1))
+
+-- turned back above: where a line of the table fits, that is the refusal
+pub turned-above : (table further : List Line) {n : ℕ} → n ≡ refusal table → (n ≡ 0 → ⊥) → n ≡ refusal (table ++ further)
+turned-above table further e ne = e ∙ sym (above table further (λ z. ne (e ∙ z)))
+
+-- open above: where none fits, the further lines decide
+pub open-above :
+    (table further : List Line) → T (numbered table) → {n m : ℕ} → n ≡ refusal table → n ≡ 0 → m ≡ refusal further → m ≡ refusal (table ++ further)
+open-above table further t e z e′ = e′ ∙ sym (past table further (first-none table t (sym e ∙ z)))
+
+-- open in both: where nothing is refused, neither the table nor the further lines refuse
+pub open-both :
+    (table further : List Line) → T (numbered table) → refusal (table ++ further) ≡ 0 → (refusal table ≡ 0) × (refusal further ≡ 0)
+open-both [] further t e = (refl, e)
+open-both (l ∷ ls) further t e =
+    let h = pick-none (l .fits) (l .number) (refusal (ls ++ further)) (T-left (ltb 0 (l .number)) (numbered ls) t) e in
+    let rest = open-both ls further (T-right (ltb 0 (l .number)) (numbered ls) t) (h .1) in
+    (rw (h .0) (rest .0), rest .1)
+
 -- Answers
 
 -- a refusal is answered by its number

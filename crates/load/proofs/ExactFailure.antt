@@ -1,6 +1,6 @@
 -- A failure time by computation: where `failsRightAfter` holds of n/q minutes, they are the failure time.
 use Prim.Native.Nat.{ℕ, suc, _+_, _*_, _≤_, _<_}
-use mathlib.Core.Path.{_≡_, ap, _∙_}
+use mathlib.Core.Path.{_≡_}
 use mathlib.Core.Bool.{Bool, true, false, not, _&&_}
 use native.Mathlib.Omega.{arith}
 use native.Mathlib.Nat.{le-trans, mul-pos, mul-lt-mul-of-pos-left}
@@ -14,8 +14,9 @@ use Rattle.charring.specs.Depths.{fullAt, effectiveAt, tenthsAt}
 use Rattle.charring.proofs.DepthLaws.{tenths-later}
 use Rattle.charring.proofs.Rising.{tenths-rise}
 use Rattle.load.specs.Failure.{EveryTenthPasses, TimePasses, IsFailureTime}
-use Rattle.load.specs.Scan.{nextPass, onTenth, lastDepth, failsRightAfter}
-use Rattle.load.proofs.Scanned.{next-sound}
+use Rattle.load.specs.LoadMinute.{everyFrom}
+use Rattle.load.specs.FailureTests.{onTenth, lastDepth, failsRightAfter}
+use Rattle.load.proofs.LoadMinutes.{every-tenth}
 
 -- What the two tests say
 
@@ -48,17 +49,10 @@ record LastDepth (passes : ℕ → Bool) (k : ℕ) : Type 0 where
 
 last-depth : (passes : ℕ → Bool) (k : ℕ) → T (lastDepth passes k) → LastDepth passes k
 last-depth passes k t =
-    let (a, b, c) = each (passes 0) (nextPass passes 0 k) (not (passes (suc k))) t in
     record {
-      every = λ d l. next-sound passes 0 k (first (T-true (passes 0) a)) (T-true (nextPass passes 0 k) b) d (omega arith);
-      next = T-false (passes (suc k)) c;
+      every = every-tenth passes k .0 (T-true (everyFrom passes 0 k) (T-left (everyFrom passes 0 k) (not (passes (suc k))) t));
+      next = T-false (passes (suc k)) (T-right (everyFrom passes 0 k) (not (passes (suc k))) t);
     }
-  where
-    each : (a b c : Bool) → T (a && b && c) → T a × T b × T c
-    each true true true t = (tt, tt, tt)
-
-    first : passes 0 ≡ true → EveryTenthPasses passes 0
-    first e d l = ap passes (let z : d ≡ 0 = omega arith in z) ∙ e
 
 -- up to n/q no depth past k is reached, and at any later time, between it and n/q, the next one is
 pub exact-failure : (p : Panel) (n q : ℕ) → T (failsRightAfter p n q) → IsFailureTime (TimePasses p) n q

@@ -1,9 +1,7 @@
+pub mod LoadMinutes
+pub mod WholeParts
 pub mod Closeness
 pub mod ExactFailure
 pub mod Exposure
-pub mod Replies
 pub mod Reserves
-pub mod ScanSteps
-pub mod Scanned
 pub mod Unused
-pub mod WholeParts

@@ -1,4 +1,5 @@
 pub mod Failure
+pub mod LoadMinute
 pub mod Exposure
-pub mod Scan
+pub mod FailureTests
 pub mod Answers

@@ -7,11 +7,11 @@ use limits::calls::panel_refusal;
 use panel::Panel;
 ghost use mathlib.Core.Path.{_≡_};
 ghost use Prim.Native.Nat.{_≤_};
-ghost use Rattle.load.specs.Answers.{LoadAnswered, ReserveAnswered, reserveOf};
+ghost use Rattle.load.specs.Answers.{loadAnswer, reserveAnswer, reserveOf};
 
 // The load minute.
 pub fn load_minute(p: Panel) -> LoadAnswer
-    ensures { λ r. ⌜ LoadAnswered p r ⌝ }
+    ensures { λ r. ⌜ r ≡ loadAnswer p ⌝ }
 {
     let n = panel_refusal(p);
     if n != 0 {
@@ -29,7 +29,7 @@ fn reserve_of(load: u16, wanted: u16) -> i32
 
 // The reserve against a wanted minute.
 pub fn reserve(p: Panel, wanted: u16) -> ReserveAnswer
-    ensures { λ r. ⌜ ReserveAnswered p wanted r ⌝ }
+    ensures { λ r. ⌜ r ≡ reserveAnswer p wanted ⌝ }
 {
     let n = minute_refusal(p, wanted);
     if n != 0 {

@@ -2,14 +2,13 @@
 use crate::scan::scan;
 use panel::Panel;
 ghost use mathlib.Core.Path.{_≡_};
-ghost use Prim.Native.Nat.{_≤_};
 ghost use Rattle.limits.specs.Refusals.{panelRefusal};
-ghost use Rattle.load.specs.Failure.{IsLoadMinute};
+ghost use Rattle.load.specs.LoadMinute.{loadMinute};
 
 // No open call: no line may turn the panel back.
 pub fn load_minute_of(p: Panel) -> u16
     requires { ⌜ panelRefusal p ≡ 0 ⌝ }
-    ensures { λ r. ⌜ IsLoadMinute p r × (r ≤ 360) ⌝ }
+    ensures { λ r. ⌜ r ≡ loadMinute p ⌝ }
 {
     scan(p)
 }

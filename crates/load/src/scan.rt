@@ -4,15 +4,16 @@ use charring::fires::fire_of;
 use panel::Panel;
 use section::test::depth_passes;
 ghost use mathlib.Core.Path.{_≡_};
+ghost use mathlib.Core.Bool.{true};
 ghost use Prim.Native.Nat.{_-_, _≤_};
 ghost use Rattle.section.specs.Tests.{depthPasses, SectionFits};
 ghost use Rattle.charring.specs.Fits.{FireFits};
-ghost use Rattle.load.specs.Scan.{nextPass, loadScan};
+ghost use Rattle.load.specs.LoadMinute.{everyFrom, loadMinute};
 
-// Whether every depth after one up to another passes.
-fn next_pass(p: Panel, from: u32, to: u32) -> bool
-    requires { ⌜ SectionFits p ⌝ }
-    ensures { λ r. ⌜ r ≡ nextPass (depthPasses p) from (to - from) ⌝ }
+// Whether every depth from one, which passes, to another passes.
+fn further_pass(p: Panel, from: u32, to: u32) -> bool
+    requires { ⌜ SectionFits p × (depthPasses p from ≡ true) ⌝ }
+    ensures { λ r. ⌜ r ≡ everyFrom (depthPasses p) from (to - from) ⌝ }
 {
     let mut depth = from;
     while depth < to {
@@ -26,16 +27,15 @@ fn next_pass(p: Panel, from: u32, to: u32) -> bool
 
 // Each minute's depth begins where the one before left off, so that each depth is tested once.
 pub(crate) fn scan(p: Panel) -> u16
-    requires { ⌜ SectionFits p ⌝ }
-    requires { ⌜ FireFits p ⌝ }
-    ensures { λ r. ⌜ (r ≡ loadScan p) × (r ≤ 360) ⌝ }
+    requires { ⌜ SectionFits p × (FireFits p × (depthPasses p 0 ≡ true)) ⌝ }
+    ensures { λ r. ⌜ r ≡ loadMinute p ⌝ }
 {
     let f = fire_of(p);
     let mut minute: u16 = 0;
     let mut depth: u32 = tenths_in(p, f, 0);
     while minute < 360 {
         let next = tenths_in(p, f, minute as u64 + 1);
-        if !next_pass(p, depth, next) {
+        if !further_pass(p, depth, next) {
             return minute;
         }
         depth = next;

@@ -12,21 +12,27 @@ pub record IsLargest (test : ℕ → Bool) (v : ℕ) : Type 0 where
   pub kept : test v ≡ true
   pub beyond : (m : ℕ) → v < m → test m ≡ false
 
--- what is largest of all is found below any bound that it keeps to
-pub largest-is : (test : ℕ → Bool) (bound v : ℕ) → IsLargest test v → v ≤ bound → largest test bound ≡ v
+-- a number that keeps the test is found where nothing between it and the bound does
+pub largest-last :
+    (test : ℕ → Bool) (bound v : ℕ) → v ≤ bound → test v ≡ true → ((m : ℕ) → v < m → m ≤ bound → test m ≡ false) → largest test bound ≡ v
 unfolding largest
-largest-is test zero v l h = omega arith
-largest-is test (suc n) v l h = go (test (suc n)) refl (largest-is test n v l) (decLt v (suc n))
+largest-last test zero v h kept beyond = omega arith
+largest-last test (suc n) v h kept beyond = go (test (suc n)) refl (largest-last test n v) (decLt v (suc n))
   where
     go :
-        (b : Bool) → test (suc n) ≡ b → (v ≤ n → largest test n ≡ v) → Dec (v < suc n)
+        (b : Bool) → test (suc n) ≡ b
+        → (v ≤ n → test v ≡ true → ((m : ℕ) → v < m → m ≤ n → test m ≡ false) → largest test n ≡ v) → Dec (v < suc n)
         → (elim b as (λ _. ℕ) [ true ↦ suc n | false ↦ largest test n ]) ≡ v
-    go true e below (yes k) = absurd (not-both (test (suc n)) e (l .beyond (suc n) k))
+    go true e below (yes k) = absurd (not-both (test (suc n)) e (beyond (suc n) k (omega arith)))
     go true e below (no k) = omega arith
-    go false e below (yes k) = below (omega arith)
+    go false e below (yes k) = below (omega arith) kept (λ m l u. beyond m l (omega arith))
     go false e below (no k) =
         let same : v ≡ suc n = omega arith in
-        absurd (not-both (test (suc n)) (rw same at (l .kept)) e)
+        absurd (not-both (test (suc n)) (rw same at kept) e)
+
+-- what is largest of all is found below any bound that it keeps to
+pub largest-is : (test : ℕ → Bool) (bound v : ℕ) → IsLargest test v → v ≤ bound → largest test bound ≡ v
+largest-is test bound v l h = largest-last test bound v h (l .kept) (λ m k u. l .beyond m k)
 
 -- for a test that every smaller number keeps too, it is enough that v keeps it and the next does not
 pub largest-by-next :
@@ -39,24 +45,44 @@ largest-by-next test down v e f =
     go m h true k = absurd (not-both (test (suc v)) (down (suc v) m h k) f)
     go m h false k = k
 
--- and what `largest` finds is the largest of all where nothing above the bound keeps the test and 0 does
-pub largest-found :
-    (test : ℕ → Bool) (bound : ℕ) → test 0 ≡ true → ((m : ℕ) → bound < m → test m ≡ false) → IsLargest test (largest test bound)
+-- what is found keeps the test where 0 does
+pub largest-keeps : (test : ℕ → Bool) (bound : ℕ) → test 0 ≡ true → test (largest test bound) ≡ true
 unfolding largest
-largest-found test zero e far = record { kept = e; beyond = far }
-largest-found test (suc n) e far = go (test (suc n)) refl (largest-found test n e)
+largest-keeps test zero e = e
+largest-keeps test (suc n) e = go (test (suc n)) refl (largest-keeps test n e)
   where
     go :
-        (b : Bool) → test (suc n) ≡ b → (((m : ℕ) → n < m → test m ≡ false) → IsLargest test (largest test n))
-        → IsLargest test (elim b as (λ _. ℕ) [ true ↦ suc n | false ↦ largest test n ])
-    go true k below = record { kept = k; beyond = far }
-    go false k below = below (λ m h. next m h (decLt (suc n) m))
-      where
-        next : (m : ℕ) → n < m → Dec (suc n < m) → test m ≡ false
-        next m h (yes l) = far m l
-        next m h (no l) =
-            let same : m ≡ suc n = omega arith in
-            rw same k
+        (b : Bool) → test (suc n) ≡ b → test (largest test n) ≡ true
+        → test (elim b as (λ _. ℕ) [ true ↦ suc n | false ↦ largest test n ]) ≡ true
+    go true k below = k
+    go false k below = below
+
+-- and no greater number up to the bound does
+pub largest-greatest : (test : ℕ → Bool) (bound m : ℕ) → m ≤ bound → test m ≡ true → m ≤ largest test bound
+unfolding largest
+largest-greatest test zero m h e = omega arith
+largest-greatest test (suc n) m h e = go (test (suc n)) refl (largest-greatest test n m) (decLt m (suc n))
+  where
+    go :
+        (b : Bool) → test (suc n) ≡ b → (m ≤ n → test m ≡ true → m ≤ largest test n) → Dec (m < suc n)
+        → m ≤ (elim b as (λ _. ℕ) [ true ↦ suc n | false ↦ largest test n ])
+    go true k below l = h
+    go false k below (yes l) = below (omega arith) e
+    go false k below (no l) =
+        let same : m ≡ suc n = omega arith in
+        absurd (not-both (test (suc n)) (rw same at e) k)
+
+-- it is the largest of all where nothing above the bound keeps the test and 0 does
+pub largest-found :
+    (test : ℕ → Bool) (bound : ℕ) → test 0 ≡ true → ((m : ℕ) → bound < m → test m ≡ false) → IsLargest test (largest test bound)
+largest-found test bound e far = record { kept = largest-keeps test bound e; beyond = λ m h. go m h (decLt bound m) (test m) refl }
+  where
+    go : (m : ℕ) → largest test bound < m → Dec (bound < m) → (b : Bool) → test m ≡ b → test m ≡ false
+    go m h (yes k) b f = far m k
+    go m h (no k) true f =
+        let l = largest-greatest test bound m (omega arith) f in
+        absurd (let z : ⊥ = omega arith in z)
+    go m h (no k) false f = f
 
 pub largest-within : (test : ℕ → Bool) (bound : ℕ) → largest test bound ≤ bound
 unfolding largest

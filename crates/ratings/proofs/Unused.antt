@@ -1,30 +1,24 @@
 -- Unused places do not matter: panels that differ at most there get the same grades and meet the same refusals.
-use Prim.Native.Nat.{ℕ}
-use mathlib.Core.Path.{_≡_, refl, transport}
+use mathlib.Core.Path.{_≡_, ap, ap₂}
 use Rattle.panel.specs.declared.Panel.{Panel}
 use Rattle.panel.specs.Lamellae.{SameUsed}
 use Rattle.limits.proofs.Unused.{refusal-unused}
 use Rattle.layers.proofs.Unused.{ei-minute-same}
+use Rattle.grades.specs.declared.Grade.{Grade}
 use Rattle.grades.specs.Grades.{gradeOf, reiOf}
-use Rattle.grades.specs.declared.GradeAnswer.{GradeAnswer}
-use Rattle.grades.specs.declared.GradeAnswer.the-variants.{Of, Refused}
-use Rattle.load.specs.Answers.{AnswerBy}
-use Rattle.load.proofs.Replies.{by-unique}
-use Rattle.load.proofs.Unused.{load-minute-same, load-minute-unique}
-use Rattle.ratings.specs.Answers.{LoadGraded, eiGraded, BothGraded}
+use Rattle.load.proofs.Unused.{load-minute-same}
+use Rattle.ratings.specs.Answers.{loadGrade, eiGrade, reiGrade, graded}
 
-pub load-grade-unused : (p q : Panel) → SameUsed p q → (r s : GradeAnswer) → LoadGraded p r → LoadGraded q s → r ≡ s
-load-grade-unused p q h r s a b =
-    let value : ℕ → GradeAnswer = λ load. Of (gradeOf load) in
-    by-unique (load-minute-unique q)
-    (transport (λ i. AnswerBy (load-minute-same p q h i) (refusal-unused p q h i) Refused value r) a) b
+module _ (p q : Panel) (h : SameUsed p q) where
+  graded-same : (grade : Panel → Grade) → grade p ≡ grade q → graded grade p ≡ graded grade q
+  unfolding graded
+  graded-same grade e = rw (refusal-unused p q h, e)
 
-pub ei-grade-unused : (p q : Panel) → SameUsed p q → eiGraded p ≡ eiGraded q
-unfolding eiGraded
-ei-grade-unused p q h = rw (refusal-unused p q h, ei-minute-same p q h) refl
+  pub load-grade-unused : graded loadGrade p ≡ graded loadGrade q
+  load-grade-unused = graded-same loadGrade (ap gradeOf (load-minute-same p q h))
 
-pub rei-grade-unused : (p q : Panel) → SameUsed p q → (r s : GradeAnswer) → BothGraded p r → BothGraded q s → r ≡ s
-rei-grade-unused p q h r s a b =
-    by-unique (load-minute-unique q)
-    (transport (λ i. AnswerBy (load-minute-same p q h i) (refusal-unused p q h i) Refused
-    (λ (load : ℕ). Of (reiOf load (ei-minute-same p q h i))) r) a) b
+  pub ei-grade-unused : graded eiGrade p ≡ graded eiGrade q
+  ei-grade-unused = graded-same eiGrade (ap gradeOf (ei-minute-same p q h))
+
+  pub rei-grade-unused : graded reiGrade p ≡ graded reiGrade q
+  rei-grade-unused = graded-same reiGrade (ap₂ reiOf (load-minute-same p q h) (ei-minute-same p q h))

@@ -1,23 +1,24 @@
 -- The grades of a panel, by document 01's number: what the open calls of this crate answer.
-use Prim.Native.Nat.{ℕ}
 use Rattle.panel.specs.declared.Panel.{Panel}
 use Rattle.limits.specs.Lines.{answer}
 use Rattle.limits.specs.Refusals.{panelRefusal}
 use Rattle.layers.specs.Layers.{eiMinute}
+use Rattle.grades.specs.declared.Grade.{Grade}
 use Rattle.grades.specs.declared.GradeAnswer.{GradeAnswer}
 use Rattle.grades.specs.declared.GradeAnswer.the-variants.{Of, Refused}
 use Rattle.grades.specs.Grades.{gradeOf, reiOf}
-use Rattle.load.specs.Failure.{IsLoadMinute}
-use Rattle.load.specs.Answers.{AnswerBy}
+use Rattle.load.specs.LoadMinute.{loadMinute}
 
--- the grade of R
-abbrev pub LoadGraded : Panel → GradeAnswer → Type 0
-LoadGraded p r = AnswerBy (IsLoadMinute p) (panelRefusal p) Refused (λ (load : ℕ). Of (gradeOf load)) r
+-- the grades of an accepted panel: of R, of EI, and "REI takes the lower of R and EI"
+abbrev pub loadGrade : Panel → Grade
+loadGrade p = gradeOf (loadMinute p)
 
--- the grade of EI
-unfoldable pub eiGraded : Panel → GradeAnswer
-eiGraded p = answer (panelRefusal p) Refused (Of (gradeOf (eiMinute p)))
+abbrev pub eiGrade : Panel → Grade
+eiGrade p = gradeOf (eiMinute p)
 
--- "REI takes the lower of R and EI."
-abbrev pub BothGraded : Panel → GradeAnswer → Type 0
-BothGraded p r = AnswerBy (IsLoadMinute p) (panelRefusal p) Refused (λ (load : ℕ). Of (reiOf load (eiMinute p))) r
+abbrev pub reiGrade : Panel → Grade
+reiGrade p = reiOf (loadMinute p) (eiMinute p)
+
+-- a grade, or the refusal
+unfoldable pub graded : (Panel → Grade) → Panel → GradeAnswer
+graded grade p = answer (panelRefusal p) Refused (Of (grade p))

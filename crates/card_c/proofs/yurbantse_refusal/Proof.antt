@@ -2,29 +2,20 @@
 use Rattle.card_c.proofs.Numbers.{short-text}
 use Rattle.card_c.specs.Exported.{Short, exported}
 use Rattle.card_text.proofs.Lengths.{length-line}
-use Rattle.fire_card.specs.Answers.{textAnswer, shortLine}
 use Rattle.fire_card.specs.Card.{refusalHead, refusalText}
-use Rattle.limits.specs.Lines.{refusal}
 use borrow.Author.Needs.{needs}
 use denote.Ref.{now}
-use mathlib.Core.List.{List, [], _∷_}
+use mathlib.Core.List.{[], _∷_}
 use mathlib.Core.Path.{sym, ap, subst, _∙_}
 use mir.Facts.{toZ-ofZ}
 use native.Mathlib.Omega.{arith}
-use Prim.Native.Nat.{ℕ}
 use Rattle.card_c.proofs.yurbantse_refusal.Statement.{statement}
 use Rattle.card_c.proofs.yurbantse_refusal.Tie as tie
-
-short : (n : ℕ) (space : List ℕ) → Short (textAnswer (refusalText n) space)
-unfolding textAnswer
-short n space =
-    let long = length-line refusalHead (n ∷ []) in
-    short-text (refusal (shortLine (refusalText n) space ∷ [])) (refusalText n) (omega (arith, long))
 
 number-of-requires : tie.Need-number-of-requires
 number-of-requires c κs =
     let s = c .before .before .before .before .before .args in
-    subst Short (sym (c .before .before .refusal .ensures .0)) (short (s .n) (now (s .out)))
+    subst Short (sym (c .before .before .refusal .ensures .0)) (short-text [] (refusalText (s .n)) (now (s .out)) (let long = length-line refusalHead (s .n ∷ []) in omega (arith, long)))
 
 returns : tie.Need-returns
 returns c =

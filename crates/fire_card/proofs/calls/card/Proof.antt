@@ -1,21 +1,20 @@
 -- `fire_card::calls::card` meets its contract: the card of an accepted record, made aside and then delivered. Assumes nothing.
 use Prim.Native.Nat.{ℕ}
 use Rattle.card_text.proofs.Storing.{put-text, put-count}
-use Rattle.fire_card.proofs.Cards.{read-refusal, read-panel, card-refused, card-delivered, card-length}
+use Rattle.fire_card.proofs.Cards.{read-refusal, read-panel, card-length}
+use Rattle.fire_card.proofs.Texts.{text-refused, text-delivered}
 use Rattle.fire_card.specs.Answers.{textAnswer, textAfter}
 use Rattle.fire_card.specs.Card.{cardText}
 use Rattle.limits.specs.Refusals.{panelRefusal}
-use Rattle.load.specs.Failure.{IsLoadMinute}
-use Rattle.panel.specs.declared.Panel.{Panel}
 use Rattle.record.proofs.Sound.{record-panel}
 use Rattle.record.specs.Answers.{decode}
 use Rattle.record.specs.Layouts.{panelOf}
-use Rattle.record.specs.Refusals.{recordRefusal}
+use Rattle.record.specs.Refusals.{recordLines, recordRefusal}
 use Rattle.record.specs.declared.Reading.{Reading}
 use borrow.Author.Needs.{needs}
 use denote.Ref.{now}
-use mathlib.Core.List.{List}
-use mathlib.Core.Path.{_≡_, sym, ap, subst, _∙_}
+use mathlib.Core.List.{List, []}
+use mathlib.Core.Path.{_≡_, sym, ap, _∙_}
 use native.Mathlib.Nat.{le-refl}
 use Rattle.fire_card.proofs.calls.card.Statement.{statement}
 use Rattle.fire_card.proofs.calls.card.Tie as tie
@@ -27,37 +26,40 @@ none-read b x e z =
     (none, ap (λ (y : Reading). y .panel) e ∙ read-panel b none)
 
 returns : tie.Need-returns
+unfolding recordRefusal
 returns c =
     let r = c .before .before in
     let a = r .before .before .before .args in
-    card-refused (now (a .bytes)) (now (a .out)) (r .read .result .refusal)
-    (ap (λ (x : Reading). x .refusal) (r .read .ensures) ∙ read-refusal (now (a .bytes))) (c .if1 .taken)
+    let b = now (a .bytes) in
+    text-refused (recordLines b (panelOf b)) (cardText (panelOf b)) (now (a .out))
+    (ap (λ (x : Reading). x .refusal) (r .read .ensures) ∙ read-refusal b) (c .if1 .taken)
 
 put-card-requires : tie.Need-put-card-requires
 put-card-requires c κs =
     let r = c .before .before .before in
-    let bytes = now (r .before .before .before .args .bytes) in
-    let h = none-read bytes (r .read .result) (r .read .ensures) (c .before .if1 .left) in
-    (ap panelRefusal (h .1) ∙ record-panel bytes (h .0), le-refl 232)
+    let b = now (r .before .before .before .args .bytes) in
+    let h = none-read b (r .read .result) (r .read .ensures) (c .before .if1 .left) in
+    (ap panelRefusal (h .1) ∙ record-panel b (h .0), le-refl 232)
 
 slice-aggregate-deliver : tie.Need-slice-aggregate-deliver
 slice-aggregate-deliver c =
-    let k = c .before .before .put-card .ensures in
-    put-count (k .put) (card-length (c .before .before .before .before .before .before .read .result .panel) (k .load))
+    put-count (c .before .before .put-card .ensures) (card-length (c .before .before .before .before .before .before .read .result .panel))
 
 returns-2 : tie.Need-returns-2
+unfolding recordRefusal
 returns-2 c =
     let d = c .before .before .deliver in
     let c6 = c .before .before .before .before .before .before in
     let r = c6 .before .before .before .before in
     let a = r .before .before .before .args in
-    let bytes = now (a .bytes) in
+    let b = now (a .bytes) in
     let space = now (a .out) in
-    let h = none-read bytes (r .read .result) (r .read .ensures) (c6 .before .before .if1 .left) in
-    let k = c6 .put-card .ensures in
-    let t = put-text (k .put) (card-length (r .read .result .panel) (k .load)) ∙ ap (λ (p : Panel). cardText p (k .load)) (h .1) in
-    card-delivered bytes space (d .last .1 .0) (d .result) (k .load) (h .0) (subst (λ (p : Panel). IsLoadMinute p (k .load)) (h .1) (k .is))
-    (d .ensures .0 ∙ ap (λ (text : List ℕ). textAnswer text space) t) (d .ensures .1 ∙ ap (λ (text : List ℕ). textAfter text space) t)
+    let h = none-read b (r .read .result) (r .read .ensures) (c6 .before .before .if1 .left) in
+    let t = put-text (c6 .put-card .ensures) (card-length (r .read .result .panel)) ∙ ap cardText (h .1) in
+    let o = text-delivered (recordLines b (panelOf b)) (cardText (panelOf b)) space tt (h .0) in (
+      d .ensures .0 ∙ ap (λ (text : List ℕ). textAnswer [] text space) t ∙ o .0,
+      d .ensures .1 ∙ ap (λ (text : List ℕ). textAfter [] text space) t ∙ o .1,
+    )
 
 pub card-spec : {M : Type 1} → statement M
 card-spec =

@@ -22,9 +22,9 @@ returns c =
     let a = l .before .before .before .before .before .args in
     let d = c .before .before .deliver in
     let t = put-text (l .put-line .ensures) (length-line refusalHead (a .n ∷ [])) in (
-      d .ensures .0 ∙ ap (λ (text : List ℕ). textAnswer text (now (a .out))) t,
+      d .ensures .0 ∙ ap (λ (text : List ℕ). textAnswer [] text (now (a .out))) t,
       d .ensures .1
-          ∙ ap (λ (text : List ℕ). textAfter text (now (a .out))) t,
+          ∙ ap (λ (text : List ℕ). textAfter [] text (now (a .out))) t,
     )
 
 pub refusal-spec : {M : Type 1} → statement M

@@ -9,7 +9,7 @@ use Rattle.grades.proofs.Grade.of.Tie as tie
 
 returns : tie.Need-returns
 unfolding greatestTo
-returns c = grade-between 360 65536 tt refl (c .before .args .minute) (omega arith) (omega arith)
+returns c = grade-between 360 361 tt refl (c .before .args .minute) (omega arith) (omega arith)
 
 returns-2 : tie.Need-returns-2
 unfolding greatestTo

@@ -1,17 +1,20 @@
--- `load::calls::load_minute` meets its contract: an accepted panel has a load minute. Assumes nothing.
-use Rattle.load.proofs.Replies.{by-refused, by-value}
+-- `load::calls::load_minute` meets its contract: the load minute of an accepted panel, else the refusal. Assumes nothing.
+use Rattle.limits.proofs.FirstLine.{turned-back, let-through}
+use Rattle.load.specs.Answers.{loadAnswer}
+use Rattle.load.specs.declared.LoadAnswer.the-variants.{Minute, Refused}
 use borrow.Author.Needs.{needs}
-use mathlib.Core.Path.{refl, sym, _∙_}
+use mathlib.Core.Path.{sym, ap, _∙_}
 use Rattle.load.proofs.calls.load_minute.Statement.{statement}
 use Rattle.load.proofs.calls.load_minute.Tie as tie
 
 returns : tie.Need-returns
-returns c = by-refused (c .before .panel-refusal .ensures) (c .if1 .taken)
+unfolding loadAnswer
+returns c = turned-back Refused _ (c .before .panel-refusal .ensures) (c .if1 .taken)
 
 returns-2 : tie.Need-returns-2
+unfolding loadAnswer
 returns-2 c =
-    let m = c .load-minute-of in
-    by-value (m .result) (c .before .before .panel-refusal .ensures) (c .before .if1 .left) (m .ensures .0) refl
+    let-through Refused (c .before .before .panel-refusal .ensures) (c .before .if1 .left) (ap Minute (c .load-minute-of .ensures))
 
 pub load-minute-spec : {M : Type 1} → statement M
 load-minute-spec =

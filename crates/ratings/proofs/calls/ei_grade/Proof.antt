@@ -2,18 +2,18 @@
 use Rattle.grades.specs.Grades.{gradeOf}
 use Rattle.grades.specs.declared.GradeAnswer.the-variants.{Of, Refused}
 use Rattle.limits.proofs.FirstLine.{turned-back, let-through}
-use Rattle.ratings.specs.Answers.{eiGraded}
+use Rattle.ratings.specs.Answers.{graded}
 use borrow.Author.Needs.{needs}
 use mathlib.Core.Path.{sym, ap, _∙_}
 use Rattle.ratings.proofs.calls.ei_grade.Statement.{statement}
 use Rattle.ratings.proofs.calls.ei_grade.Tie as tie
 
 returns : tie.Need-returns
-unfolding eiGraded
+unfolding graded
 returns c = turned-back Refused _ (c .before .panel-refusal .ensures) (c .if1 .taken)
 
 returns-2 : tie.Need-returns-2
-unfolding eiGraded
+unfolding graded
 returns-2 c =
     let taken = c .before .before in
     let-through Refused (taken .before .panel-refusal .ensures) (taken .if1 .left)

@@ -1,0 +1,26 @@
+-- Document 01, "Remaining section": R, the load minute, as a number. That it is what `IsLoadMinute` means is a theorem (LoadMinutes in
+-- proofs/).
+use Prim.Native.Nat.{ℕ, zero, suc, _*_}
+use mathlib.Core.Bool.{Bool, _&&_}
+use Rattle.numbers.specs.Largest.{largest}
+use Rattle.panel.specs.declared.Panel.{Panel}
+use Rattle.section.specs.Tests.{depthPasses}
+use Rattle.charring.specs.Depths.{tenthsAt}
+
+-- whether each depth passes, from `first` on and `more` further
+unfoldable pub everyFrom : (ℕ → Bool) → ℕ → ℕ → Bool
+everyFrom passes first zero = passes first
+everyFrom passes first (suc more) = passes first && everyFrom passes (suc first) more
+
+-- whether the time n/q passes: "every tenth from 0 to its effective depth, rounded up, passes". The earlier times then pass too
+unfoldable pub timeTest : Panel → ℕ → ℕ → Bool
+timeTest p n q = everyFrom (depthPasses p) 0 (tenthsAt p n q)
+
+-- "the failure time's whole minutes, at most 360", in parts of which `unit` make a minute: the largest number of them, at most 360
+-- minutes, up to which every time passes. `test` says of a time whether it and every earlier one pass
+unfoldable pub wholePart : (ℕ → ℕ → Bool) → ℕ → ℕ
+wholePart test unit = largest (λ (m : ℕ). test m unit) (360 * unit)
+
+-- 01's load minute, R
+unfoldable pub loadMinute : Panel → ℕ
+loadMinute p = wholePart (timeTest p) 1
