@@ -7,6 +7,7 @@ pub mod FirstRun
 pub mod GivesWay
 pub mod JustBefore
 pub mod Lasting
+pub mod Lines
 pub mod Minutes
 pub mod Numbers
 pub mod Onward

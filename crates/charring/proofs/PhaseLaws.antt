@@ -34,7 +34,7 @@ unfolding charAt
 char-most p n q = min-le-left (underAt p n q + afterAt p n q) (2 * q * backFace p)
 
 -- before t_f nothing has gone on after it
-after-none : (p : Panel) (n q : ℕ) → 1000 * n ≤ q * failureOf p → afterAt p n q ≡ 0
+pub after-none : (p : Panel) (n q : ℕ) → 1000 * n ≤ q * failureOf p → afterAt p n q ≡ 0
 after-none p n q h =
     let e : 1000 * n - q * failureOf p ≡ 0 = none (1000 * n) (q * failureOf p) h in
     let z : 2 * plainRate p * 0 ≡ 0 = omega arith in
@@ -54,7 +54,7 @@ under-none p n q h =
     none a b c h = omega arith
 
 -- from t_ch to t_f
-under-part : (p : Panel) (n q : ℕ) → q * startOf p ≤ 1000 * n → 1000 * n ≤ q * failureOf p
+pub under-part : (p : Panel) (n q : ℕ) → q * startOf p ≤ 1000 * n → 1000 * n ≤ q * failureOf p
     → underAt p n q ≡ 2 * slowRate p * (1000 * n - q * startOf p)
 under-part p n q h k =
     let e : min (1000 * n - q * startOf p) (q * (failureOf p - startOf p)) ≡ 1000 * n - q * startOf p =
