@@ -40,7 +40,7 @@ more-lines l lines back e d₁ d₂ q b = record { mark = b .mark; is = go (b .i
     go (line m) = line (List·Memᴰ·tail m)
     go (face h) = face h
 
-exact-named : (end e : ℕ) → Exact end → end / 10000 ≡ e → end ≡ 10000 * e
+pub exact-named : (end e : ℕ) → Exact end → end / 10000 ≡ e → end ≡ 10000 * e
 exact-named end e x h = numbers end e (x .count) (x .is) h
   where
     numbers : (end e c : ℕ) → end ≡ 10000 * c → end / 10000 ≡ e → end ≡ 10000 * e

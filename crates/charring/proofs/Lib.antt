@@ -5,6 +5,7 @@ pub mod DepthBounds
 pub mod DepthLaws
 pub mod FirstRun
 pub mod GivesWay
+pub mod Growth
 pub mod JustBefore
 pub mod Lasting
 pub mod Lines
@@ -20,6 +21,8 @@ pub mod Replies
 pub mod Rising
 pub mod Rounding
 pub mod Runs
+pub mod SameRun
+pub mod Stated
 pub mod Unused
 pub mod WayLaws
 pub mod WayRamps

@@ -156,6 +156,11 @@ deeper-line {top} (next {l = k} {ls = ls} h d) l m = go (List·Memᴰ·cases-con
     go (inl e) later = omega arith
     go (inr m) later = let i = later m in omega arith
 
+-- and so are those below it than it
+pub deeper-after : {top back : ℕ} (above : List ℕ) {l : ℕ} {below : List ℕ} → Deeper top (above ++ (l ∷ below)) back → Deeper l below back
+deeper-after [] (next h d) = d
+deeper-after (a ∷ above) (next h d) = deeper-after above d
+
 -- so its run is not empty
 pub line-end-deeper : {l back : ℕ} {ls : List ℕ} → Deeper l ls back → l < lineEnd l ls
 unfolding lineEnd
