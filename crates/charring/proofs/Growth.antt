@@ -1,11 +1,10 @@
 -- On a panel's way the char deepens at the rate of its phase up to the run's end, the next line and the back face.
 use Prim.Native.Nat.{ℕ, zero, suc, _+_, _-_, _*_, _≤_, _<_}
-use mathlib.Core.Path.{_≡_, refl, sym, _∙_}
+use mathlib.Core.Path.{_≡_, sym, _∙_}
 use mathlib.Core.List.{List·Memᴰ}
 use native.Mathlib.Omega.{arith}
 use native.Mathlib.Decide.{decLe, decLt}
 use Rattle.panel.specs.declared.Panel.{Panel}
-use Rattle.charring.specs.declared.Phase.{Phase}
 use Rattle.charring.specs.declared.Phase.the-variants.{Fast, Settled}
 use Rattle.charring.specs.Fires.{backFace, depthAtFailure, firstEnd, bondLines}
 use Rattle.charring.specs.Stages.{way, charred}

@@ -4,10 +4,12 @@ pub mod Crossing
 pub mod DepthBounds
 pub mod DepthLaws
 pub mod FirstRun
+pub mod Fixed
 pub mod GivesWay
 pub mod Growth
 pub mod JustBefore
 pub mod Lasting
+pub mod Legs
 pub mod Lines
 pub mod Minutes
 pub mod Numbers

@@ -1,13 +1,12 @@
 -- The bond lines of a panel: where they are, and that in an accepted panel each is deeper than the one before and short of the back face.
-use Prim.Native.Nat.{ℕ, zero, suc, _+_, _*_, _<_, _≤_, min}
+use Prim.Native.Nat.{ℕ, zero, suc, _+_, _*_, _<_, _≤_}
 use mathlib.Core.Path.{_≡_, refl, ap, _∙_, sym, subst}
-use mathlib.Core.List.{List, [], _∷_, _++_, List·Memᴰ, List·Memᴰ·head, List·Memᴰ·tail, List·Memᴰ·append-cases, List·Memᴰ·cases-cons, List·Memᴰ·not-nil, List·Memᴰ·eq-of-singleton}
+use mathlib.Core.List.{List, [], _∷_, _++_, List·Memᴰ, List·Memᴰ·head, List·Memᴰ·append-cases, List·Memᴰ·cases-cons, List·Memᴰ·not-nil, List·Memᴰ·eq-of-singleton}
 use mathlib.Core.List.{Memᴰ·append-left, Memᴰ·append-right}
 use mathlib.Core.Logic.{_↔_, _⊎_, inl, inr}
 use mathlib.Core.Bool.{Bool, true, false}
 use native.Mathlib.Omega.{arith}
 use native.Mathlib.Decide.{decLt}
-use native.Mathlib.Numerals.{add-one}
 use lib.Dec.{eqb, ltb}
 use lib.ListN.{getD}
 use borrow.Author.Tests.{eqb-true, eq-eqb}
@@ -19,7 +18,7 @@ use Rattle.panel.specs.Lamellae.{Lamella, lamella, lamellae, lamellaeOf, thickn
 use Rattle.limits.specs.Causes.{badLamella, some}
 use Rattle.limits.specs.Refusals.{panelRefusal}
 use Rattle.limits.proofs.Accepted.{none-fits}
-use Rattle.charring.specs.Fires.{tenth, fastRun, backFace, linesFrom, bondLines, lineEnd}
+use Rattle.charring.specs.Fires.{tenth, backFace, linesFrom, bondLines, lineEnd}
 use Rattle.charring.specs.Charring.{IsBondLine}
 use Rattle.charring.proofs.AcceptedPhases.{thick}
 

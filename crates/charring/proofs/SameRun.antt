@@ -5,7 +5,6 @@ use mathlib.Core.List.{List, [], _∷_, _++_, List·Memᴰ, List·Memᴰ·head, 
 use native.Mathlib.Omega.{arith}
 use native.Mathlib.Decide.{decLt}
 use native.Mathlib.Nat.{mul-le-mul-left, mul-lt-mul-of-pos-left}
-use Rattle.charring.specs.declared.Phase.{Phase}
 use Rattle.charring.specs.declared.Phase.the-variants.{Fast, Settled}
 use Rattle.charring.specs.Fires.{lineEnd}
 use Rattle.charring.specs.Stages.{Stretch, stretches}

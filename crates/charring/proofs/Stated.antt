@@ -1,24 +1,22 @@
 -- The defined char depth and phase of an accepted panel keep every sentence of document 01's "Charring".
-use Prim.Native.Nat.{ℕ, suc, _+_, _-_, _*_, _/_, _≤_, _<_, min}
-use mathlib.Core.Path.{_≡_, refl, sym, ap, _∙_, subst}
-use mathlib.Core.List.{List, [], _∷_, _++_, List·Memᴰ}
-use mathlib.Core.Bool.{true, false}
+use Prim.Native.Nat.{ℕ, _+_, _-_, _*_, _/_, _≤_, _<_, min}
+use mathlib.Core.Path.{_≡_, refl, sym, ap, _∙_}
+use mathlib.Core.List.{List, [], _∷_, _++_}
 use native.Mathlib.Omega.{arith}
 use native.Mathlib.Decide.{decLt}
 use native.Mathlib.Nat.{le-trans, mul-le-mul-left, lt-of-mul-lt-mul-left, le-of-mul-le-mul-left, mul-lt-mul-of-pos-left}
-use lib.Dec.{eqb}
 use borrow.Author.Tests.{eq-eqb, ne-eqb}
 use Rattle.panel.specs.declared.Panel.{Panel}
 use Rattle.limits.specs.Refusals.{panelRefusal}
 use Rattle.charring.specs.declared.Phase.{Phase}
 use Rattle.charring.specs.declared.Phase.the-variants.{Fast, Settled}
-use Rattle.charring.specs.Fires.{fastRun, startOf, failureOf, clad, plainRate, slowRate, backFace, depthAtFailure, firstEnd, bondLines, lineEnd}
+use Rattle.charring.specs.Fires.{startOf, failureOf, plainRate, slowRate, backFace, depthAtFailure, firstEnd, bondLines, lineEnd}
 use Rattle.charring.specs.Stages.{stretches, way, charred}
 use Rattle.charring.specs.Depths.{underAt, afterAt, charAt}
 use Rattle.charring.specs.Phases.{phaseAt}
 use Rattle.charring.specs.Charring.{Charring, IsFirstEnd, FastUpTo, NoLineWithin, NoLineUpTo, NoLineAt}
 use Rattle.charring.proofs.Accepted.{fire-fits}
-use Rattle.charring.proofs.AcceptedPhases.{thick, through-stays}
+use Rattle.charring.proofs.AcceptedPhases.{thick}
 use Rattle.charring.proofs.DepthLaws.{char-ramp, char-no-less}
 use Rattle.charring.proofs.DepthBounds.{char-within}
 use Rattle.charring.proofs.PhaseCases.{Where, through, untouched, under, onward, where-at, at-through, at-under, at-way}
