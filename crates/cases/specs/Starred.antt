@@ -10,6 +10,8 @@ use Rattle.panel.specs.Worked.{g, gFalling, recovers, oneBehindA, threeBehindA,
 use Rattle.section.specs.Tests.{depthPasses}
 use Rattle.limits.specs.Refusals.{panelRefusal}
 use Rattle.charring.specs.Depths.{charAt}
+use Rattle.charring.specs.declared.Phase.{Phase}
+use Rattle.charring.specs.Phases.{phaseAt}
 use Rattle.load.specs.Failure.{TimePasses, IsFailureTime, IsLoadMinute}
 use Rattle.basic_times.specs.Rules.{gypsumProtection, gypsumInsulation, woodProtection, woodInsulation}
 use Rattle.layers.specs.Layers.{eiSum}
@@ -22,12 +24,15 @@ pub data Case : Type 0 where
   loadMinute : Panel → ℕ → Case
   -- a panel's failure time is exactly n/q minutes
   failureTime : Panel → ℕ → ℕ → Case
+  -- a panel is in a phase at n/q minutes
+  inPhase : Panel → ℕ → ℕ → Phase → Case
 
 -- what it is for a row to hold
 abbrev pub Holds : Case → Type 0
 Holds (gives worked said) = worked ≡ said
 Holds (loadMinute p m) = (panelRefusal p ≡ 0) × IsLoadMinute p m
 Holds (failureTime p n q) = IsFailureTime (TimePasses p) n q
+Holds (inPhase p n q f) = phaseAt p n q ≡ f
 
 -- every row of a table holds
 abbrev pub EveryRowHolds : List Case → Type 0
