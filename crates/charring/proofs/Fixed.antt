@@ -6,7 +6,8 @@ use mathlib.Core.Bool.{Bool, true, false}
 use mathlib.Core.Logic.{_⊎_, inl, inr}
 use native.Mathlib.Omega.{arith}
 use native.Mathlib.Decide.{decLe, decLt}
-use native.Mathlib.Nat.{mul-pos, mul-le-mul-left, mul-le-mul-right, min-eq-left, min-eq-right, mul-lt-mul-of-pos-left, le-of-mul-le-mul-right, lt-of-mul-lt-mul-left, eq-of-mul-eq-mul-left}
+use native.Mathlib.Nat.{mul-pos, mul-le-mul-left, mul-le-mul-right, min-eq-left}
+use native.Mathlib.Nat.{min-eq-right, mul-lt-mul-of-pos-left, le-of-mul-le-mul-right, lt-of-mul-lt-mul-left, eq-of-mul-eq-mul-left}
 use Rattle.panel.specs.declared.Panel.{Panel}
 use Rattle.limits.specs.Refusals.{panelRefusal}
 use Rattle.charring.specs.declared.Phase.{Phase}

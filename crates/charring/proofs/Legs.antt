@@ -33,11 +33,19 @@ next-mark (k ∷ lines) d q b h = go (next-mark lines d q b h)
     near mark this others l (inl e) i = rw e (this (rw e at i))
     near mark this others l (inr m) i = others l m i
 
-    kept : (r : NextMark lines d q b) → (r .mark ≡ b) ⊎ List·Memᴰ (r .mark) lines → (r .mark ≡ b) ⊎ List·Memᴰ (r .mark) (k ∷ lines)
-    kept r (inl e) = inl e
-    kept r (inr m) = inr (List·Memᴰ·tail m)
+    kept : (r : NextMark lines d q b) → (d < 2 * q * k → r .mark ≤ k) → NextMark (k ∷ lines) d q b
+    kept r this =
+        record {
+          mark = r .mark;
+          within = r .within;
+          deeper = r .deeper;
+          nearest = λ l m. near (r .mark) this (r .nearest) l (List·Memᴰ·cases-cons m);
+          is = ⊎-elim (λ e. inl e) (λ m. inr (List·Memᴰ·tail m)) (r .is);
+        }
 
     choose : (r : NextMark lines d q b) → Dec (d < 2 * q * k) → Dec (k < r .mark) → NextMark (k ∷ lines) d q b
+    choose r (no i) _ = kept r (λ h. absurd (i h))
+    choose r (yes i) (no j) = kept r (λ _. omega arith)
     choose r (yes i) (yes j) =
         record {
           mark = k;
@@ -45,22 +53,6 @@ next-mark (k ∷ lines) d q b h = go (next-mark lines d q b h)
           deeper = i;
           nearest = λ l m. near k (λ _. omega arith) (λ l m i. le-trans (omega arith) (r .nearest l m i)) l (List·Memᴰ·cases-cons m);
           is = inr (List·Memᴰ·head refl);
-        }
-    choose r (yes i) (no j) =
-        record {
-          mark = r .mark;
-          within = r .within;
-          deeper = r .deeper;
-          nearest = λ l m. near (r .mark) (λ _. omega arith) (r .nearest) l (List·Memᴰ·cases-cons m);
-          is = kept r (r .is);
-        }
-    choose r (no i) _ =
-        record {
-          mark = r .mark;
-          within = r .within;
-          deeper = r .deeper;
-          nearest = λ l m. near (r .mark) (λ z. absurd (i z)) (r .nearest) l (List·Memᴰ·cases-cons m);
-          is = kept r (r .is);
         }
 
     go : NextMark lines d q b → NextMark (k ∷ lines) d q b
@@ -121,14 +113,8 @@ module _
   no-line-up-to a h l m i = lt-of-lt-of-le h (upTo l (k .nearest l m (rw at at i)))
 
   no-line-past : (a : ℕ) → a ≡ 2 * q * k .mark → NoLineAt p a q → NoLineUpTo p (depth n q) a q
-  no-line-past a there free l m i = go (ℕ-discrete a (2 * q * l))
-    where
-      go : Dec (a ≡ 2 * q * l) → a < 2 * q * l
-      go (yes e) = absurd (free l m e)
-      go (no e) = numbers a (2 * q * l) (no-line-within a (omega arith) l m i) e
-        where
-          numbers : (a b : ℕ) → a ≤ b → (a ≡ b → ⊥) → a < b
-          numbers a b h e = ⊎-elim (λ f. absurd (e f)) (λ g. g) (eq-or-lt-of-le h)
+  no-line-past a there free l m i =
+      ⊎-elim (λ e. absurd (free l m e)) (λ h. h) (eq-or-lt-of-le (no-line-within a (omega arith) l m i))
 
   -- a mark at no line is the end
   at-end : (a : ℕ) → a ≡ 2 * q * k .mark → NoLineAt p a q → k .mark ≡ end

@@ -21,8 +21,9 @@ use Rattle.charring.proofs.DepthLaws.{char-ramp, char-no-less}
 use Rattle.charring.proofs.DepthBounds.{char-within}
 use Rattle.charring.proofs.PhaseCases.{Where, through, untouched, under, onward, where-at, at-through, at-under, at-way}
 use Rattle.charring.proofs.PhaseCases.{fast-not-settled, untouched-not-settled, untouched-not-fast, under-not-settled, under-not-fast}
-use Rattle.charring.proofs.WayLaws.{Exact, AllExact, both, exact-first, exact-bond, exact-line-end}
-use Rattle.charring.proofs.PhaseLaws.{char-parts, after-none, under-part, under-full, no-char, untouched-before, base-rises, base-step, way-step}
+use Rattle.charring.proofs.WayLaws.{Exact, exact-whole, AllExact, both, exact-first, exact-bond, exact-line-end}
+use Rattle.charring.proofs.PhaseLaws.{char-parts, after-none, under-part, under-full}
+use Rattle.charring.proofs.PhaseLaws.{no-char, untouched-before, base-rises, base-step, way-step}
 use Rattle.charring.proofs.PhaseOfDepth.{inRun, run-fast, run-settled, phaseOfDepth, phase-of-depth}
 use Rattle.charring.proofs.Lasting.{lasting, persists}
 use Rattle.charring.proofs.Lines.{Deeper, lines-deeper, deeper-back, deeper-after}
@@ -157,16 +158,9 @@ settled-grows p n m q d le f is free inside = go (decLt (charAt p n q) (2 * q * 
 
 -- Where a run starts
 
--- short of a mark at some q, short of it at all
-cancel-lt : (q a b : ℕ) → 2 * q * a < 2 * q * b → a < b
-cancel-lt q a b h = lt-of-mul-lt-mul-left (2 * q) h
-
 -- an end that is exact is what it is named
 up-to : (f : Phase) (end : ℕ) → Exact end → f ≡ Fast (end / 10000) → FastUpTo f end
-up-to f end x is = record { named = end / 10000; is = is; exact = whole end (x .count) (x .is) }
-  where
-    whole : (a k : ℕ) → a ≡ 10000 * k → 10000 * (a / 10000) ≡ a
-    whole a k h = omega arith
+up-to f end x is = record { named = end / 10000; is = is; exact = exact-whole end x }
 
 -- at t_f, at no line, the panel is in the run of the first end
 at-failure :
@@ -180,7 +174,7 @@ at-failure p n q order pos time short free =
     by-depth p n q o
     ∙ ap (λ (d : ℕ). phaseOfDepth (way p) d q) deep
     ∙ way-starts (depthAtFailure p) (firstEnd p) (bondLines p) (backFace p) q pos
-    (cancel-lt q (depthAtFailure p) (backFace p) (rw deep at short))
+    (lt-of-mul-lt-mul-left (2 * q) (rw deep at short))
     (λ l m e. free l m (deep ∙ ap (λ (a : ℕ). 2 * q * a) e))
     ∙ ap (λ (d : ℕ). inRun (firstEnd p) d q) (sym deep)
 
@@ -228,23 +222,18 @@ slow-depth p n q h k =
     sum : (a b : ℕ) → b ≡ 0 → a + b ≡ a
     sum a b e = omega arith
 
--- the same time, as near as can be
-not-before : (k n q r s : ℕ) → n * s ≡ r * q → k * n * s ≤ r * (k * q)
-not-before k n q r s e =
-    let h : k * (n * s) ≡ k * (r * q) = ap (λ (i : ℕ). k * i) e in
-    omega arith
-
-not-later : (k n q r s : ℕ) → n * s ≡ r * q → r * (k * q) ≤ (k * n + 1) * s
-not-later k n q r s e =
-    let h : k * (n * s) ≡ k * (r * q) = ap (λ (i : ℕ). k * i) e in
-    omega arith
+-- a time is not later than itself: a phase lasts as far
+same-phase : (p : Panel) (n q r s : ℕ) → 0 < q → 0 < s → n * s ≡ r * q → phaseAt p n q ≡ phaseAt p r s
+same-phase p n q r s pos here time =
+    let e : lasting p * (n * s) ≡ lasting p * (r * q) = ap (λ (i : ℕ). lasting p * i) time in
+    sym (persists p n q pos r s here (omega arith) (omega arith))
 
 -- THE LAW
 pub charring-stated : (p : Panel) → panelRefusal p ≡ 0 → Charring p (charAt p) (phaseAt p)
 charring-stated p e =
     let order = fire-fits p e .order in
     record {
-      same = λ n q r s pos here time. sym (persists p n q pos r s here (not-before (lasting p) n q r s time) (not-later (lasting p) n q r s time));
+      same = same-phase p;
       rises = λ n q r s _ _ h. char-no-less p n q r s h;
       before = λ n q _ h. no-char p n q order h;
       under = λ n q _ h k. slow-depth p n q h k;

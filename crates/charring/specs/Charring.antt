@@ -26,7 +26,8 @@ pub record IsFirstEnd (p : Panel) (end : ℕ) : Type 0 where
   -- "An unclad panel starts at β."
   pub unclad : clad (p .cladding) ≡ false → end ≡ 0
 
--- where the bond lines are that matter: "Bond holds: lines don't matter"; below the first lamellae, where more follow
+-- the bond lines that matter (proofs Lines): where the bond falls, below the first lamellae of a panel with more. "Bond holds: lines don't
+-- matter."
 pub record IsBondLine (p : Panel) (l : ℕ) : Type 0 where
   pub place : ℕ
   pub falls : p .bond ≡ 1
