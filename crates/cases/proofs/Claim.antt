@@ -13,7 +13,8 @@ use Rattle.load.specs.LoadMinute.{everyFrom, timeTest}
 use Rattle.load.specs.FailureTests.{failsRightAfter}
 use Rattle.basic_times.specs.Rules.{basicTime}
 use Rattle.layers.specs.Layers.{protection, insulation, jointOf, positioned, withProtection, withInsulation, sumAfter, eiSum}
-use Rattle.cases.specs.Starred.{starred, EveryRowHolds}
+use Rattle.cases.specs.Cases.{EveryRowHolds}
+use Rattle.cases.specs.Starred.{starred}
 use Rattle.cases.proofs.Tested.{agree, all-tested}
 
 pub starred-hold : EveryRowHolds starred

@@ -1,2 +1,3 @@
 pub mod Tested
 pub mod Claim
+pub mod Further

@@ -1,6 +1,6 @@
--- Each row of the table has a test that computes, and a row whose test is true holds: for any row, not only those of the table.
-use Prim.Native.Nat.{ℕ, suc}
-use mathlib.Core.Path.{_≡_, refl}
+-- Each row has a test that computes, and a row whose test is true holds: for any row, not only those of the tables.
+use Prim.Native.Nat.{ℕ, zero, suc}
+use mathlib.Core.Path.{_≡_, refl, sym, ap, _∙_}
 use mathlib.Core.List.{List, [], _∷_}
 use mathlib.Core.Bool.{Bool, true, false, not, _&&_}
 use borrow.Author.Tests.{lt-ltb}
@@ -12,7 +12,33 @@ use Rattle.load.specs.LoadMinute.{timeTest, loadMinute}
 use Rattle.load.specs.FailureTests.{failsRightAfter}
 use Rattle.load.proofs.LoadMinutes.{load-last}
 use Rattle.load.proofs.ExactFailure.{exact-failure}
-use Rattle.cases.specs.Starred.{Case, gives, bears, failureTime, Holds, EveryRowHolds}
+use Rattle.charring.specs.declared.Phase.{Phase}
+use Rattle.charring.specs.declared.Phase.the-variants.{Untouched, UnderCladding, Fast, Settled}
+use Rattle.charring.specs.Phases.{phaseAt}
+use Rattle.cases.specs.Cases.{Case, gives, bears, failureTime, inPhase, Holds, EveryRowHolds}
+
+-- phases are told apart by a number each
+unfoldable pub phaseNumber : Phase → ℕ
+phaseNumber Untouched = 0
+phaseNumber UnderCladding = 1
+phaseNumber Settled = 2
+phaseNumber (Fast e) = suc (suc (suc e))
+
+numbered : ℕ → Phase
+numbered zero = Untouched
+numbered (suc zero) = UnderCladding
+numbered (suc (suc zero)) = Settled
+numbered (suc (suc (suc e))) = Fast e
+
+phase-numbered : (f : Phase) → numbered (phaseNumber f) ≡ f
+unfolding phaseNumber numbered
+phase-numbered Untouched = refl
+phase-numbered UnderCladding = refl
+phase-numbered Settled = refl
+phase-numbered (Fast e) = refl
+
+same-number : (f g : Phase) → phaseNumber f ≡ phaseNumber g → f ≡ g
+same-number f g e = sym (phase-numbered f) ∙ ap numbered e ∙ phase-numbered g
 
 -- m minutes pass, and they are 360 or one more does not
 abbrev pub lastMinute : Panel → ℕ → Bool
@@ -23,6 +49,7 @@ abbrev pub test : Case → Bool
 test (gives worked said) = eqb worked said
 test (bears p m) = eqb (panelRefusal p) 0 && lastMinute p m
 test (failureTime p n q) = failsRightAfter p n q
+test (inPhase p n q f) = eqb (phaseNumber (phaseAt p n q)) (phaseNumber f)
 
 -- every row's test is true
 unfoldable pub agree : List Case → Bool
@@ -49,6 +76,7 @@ tested (bears p m) t = (
   last-minute p m (T-right (eqb (panelRefusal p) 0) (lastMinute p m) t),
 )
 tested (failureTime p n q) t = exact-failure p n q t
+tested (inPhase p n q f) t = same-number (phaseAt p n q) f (eqb→eq (phaseNumber (phaseAt p n q)) (phaseNumber f) t)
 
 pub all-tested : (cs : List Case) → T (agree cs) → EveryRowHolds cs
 unfolding agree

@@ -1,1 +1,3 @@
+pub mod Cases
 pub mod Starred
+pub mod Further

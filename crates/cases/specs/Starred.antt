@@ -1,48 +1,14 @@
 -- Document 01, "Panels worked through": "The starred are proved." One row for each number of a starred line.
-use Prim.Native.Nat.{ℕ, _*_}
-use mathlib.Core.Path.{_≡_}
 use mathlib.Core.List.{List, [], _∷_}
-use mathlib.Core.Bool.{Bool, true, false}
 use Rattle.panel.specs.declared.Cladding.the-variants.{One, Two}
-use Rattle.panel.specs.declared.Panel.{Panel}
 use Rattle.panel.specs.Boards.{charringStart}
 use Rattle.panel.specs.Worked.{g, gFalling, recovers, oneBehindA, threeBehindA, board125}
 use Rattle.section.specs.Tests.{depthPasses}
 use Rattle.limits.specs.Refusals.{panelRefusal}
 use Rattle.charring.specs.Depths.{charAt}
-use Rattle.load.specs.Failure.{TimePasses, IsFailureTime}
-use Rattle.load.specs.LoadMinute.{loadMinute}
 use Rattle.basic_times.specs.Rules.{gypsumProtection, gypsumInsulation, woodProtection, woodInsulation}
 use Rattle.layers.specs.Layers.{eiSum}
-
--- what a row says
-pub data Case : Type 0 where
-  -- a definition gives a number: what it gives, and what the document says
-  gives : ℕ → ℕ → Case
-  -- a panel is accepted, and its load minute R is so many minutes
-  bears : Panel → ℕ → Case
-  -- a panel's failure time is exactly n/q minutes
-  failureTime : Panel → ℕ → ℕ → Case
-
--- what it is for a row to hold
-abbrev pub Holds : Case → Type 0
-Holds (gives worked said) = worked ≡ said
-Holds (bears p m) = (panelRefusal p ≡ 0) × (loadMinute p ≡ m)
-Holds (failureTime p n q) = IsFailureTime (TimePasses p) n q
-
--- every row of a table holds
-abbrev pub EveryRowHolds : List Case → Type 0
-EveryRowHolds [] = Unit
-EveryRowHolds (c ∷ cs) = Holds c × EveryRowHolds cs
-
--- 1 where a depth passes, 0 where it does not
-abbrev pub passing : Bool → ℕ
-passing true = 1
-passing false = 0
-
--- a char depth of so many hundredths of a millimetre at a time n/q: half picometres, times q
-abbrev pub hundredths : ℕ → ℕ → ℕ
-hundredths mm q = 2 * q * (10000000 * mm)
+use Rattle.cases.specs.Cases.{Case, gives, bears, failureTime, passing, hundredths}
 
 unfoldable pub starred : List Case
 starred =

@@ -78,3 +78,7 @@ fire-fits p e =
       thick = ltb-false 4000 (thickness (lamellae p))
           (or-none (some badLamella (lamellae p)) (ltb 4000 (thickness (lamellae p))) (boards .1 .1 .1 .0) .1);
     }
+
+-- and chars
+pub rate-least : (p : Panel) → panelRefusal p ≡ 0 → 50 ≤ p .rate
+rate-least p e = in-range 50 100 (p .rate) (none-fits p e .1 .0) .0

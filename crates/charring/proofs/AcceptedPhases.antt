@@ -18,7 +18,7 @@ use Rattle.charring.proofs.DepthBounds.{char-within}
 use Rattle.charring.proofs.PhaseLaws.{Throughout, phaseRate, untouched-only, untouched-before, grows}
 
 -- an accepted panel has some thickness
-thick : (p : Panel) → panelRefusal p ≡ 0 → 0 < thickness (lamellae p)
+pub thick : (p : Panel) → panelRefusal p ≡ 0 → 0 < thickness (lamellae p)
 thick p e =
     let f = fire-fits p e in
     let least = lamella-within p e 0 (f .least) in

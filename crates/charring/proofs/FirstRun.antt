@@ -13,7 +13,7 @@ use Rattle.charring.specs.Fires.{fastRun, startOf, failureOf, plainRate,
 use Rattle.charring.specs.Depths.{charAt}
 use Rattle.charring.specs.Phases.{phaseAt}
 use Rattle.charring.proofs.DepthLaws.{char-ramp}
-use Rattle.charring.proofs.WayLaws.{exact-first}
+use Rattle.charring.proofs.WayLaws.{exact-whole, exact-first}
 use Rattle.charring.proofs.PhaseCases.{Where, through, untouched, under, onward, where-at, fast-not-settled}
 use Rattle.charring.proofs.PhaseLaws.{Throughout, phaseRate, no-char, fast-before-end, grows}
 
@@ -72,7 +72,7 @@ pub over-by-twice :
 over-by-twice p n q same pos past all =
     let e : ℕ = firstEnd p / 10000 in
     let at : phaseAt p n q ≡ Fast e = all n q pos (from (q * failureOf p) n q past) (omega arith) in
-    let named : 10000 * e ≡ firstEnd p = whole (firstEnd p) (exact-first p .count) (exact-first p .is) in
+    let named : 10000 * e ≡ firstEnd p = exact-whole (firstEnd p) (exact-first p) in
     let before : charAt p n q < 2 * q * firstEnd p = rw named at (fast-before-end p n q e at) in (
       time (charAt p n q) (plainRate p) n q (failureOf p) (firstEnd p) before (first-end-twice p same) (fast-since p e n q same pos past all) past,
       depth (charAt p n q) q (firstEnd p) fastRun before (first-end-run p),
@@ -82,9 +82,6 @@ over-by-twice p n q same pos past all =
     from a n q h =
         let l : a * q ≤ 1000 * n * q = mul-le-mul-right q h in
         omega arith
-
-    whole : (a k : ℕ) → a ≡ 10000 * k → 10000 * (a / 10000) ≡ a
-    whole a k h = omega arith
 
     depth : (c q d b : ℕ) → c < 2 * q * d → d ≤ b → c < 2 * q * b
     depth c q d b h k =

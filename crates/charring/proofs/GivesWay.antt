@@ -15,7 +15,7 @@ use Rattle.charring.specs.Stages.{Stretch, stretches, way}
 use Rattle.charring.specs.Depths.{charAt}
 use Rattle.charring.specs.Phases.{phaseAt}
 use Rattle.charring.proofs.DepthLaws.{char-ramp}
-use Rattle.charring.proofs.WayLaws.{Exact, AllExact, both, exact-line-end, exact-first, exact-bond}
+use Rattle.charring.proofs.WayLaws.{Exact, exact-whole, AllExact, both, exact-line-end, exact-first, exact-bond}
 use Rattle.charring.proofs.PhaseCases.{Where, through, untouched, under, onward, where-at, fast-not-settled, untouched-not-fast, under-not-fast}
 use Rattle.charring.proofs.PhaseOfDepth.{phaseOfDepth, deep-fast, deep-settled, deep-rest, phase-of-depth}
 
@@ -40,11 +40,8 @@ more-lines l lines back e d₁ d₂ q b = record { mark = b .mark; is = go (b .i
     go (line m) = line (List·Memᴰ·tail m)
     go (face h) = face h
 
-exact-named : (end e : ℕ) → Exact end → end / 10000 ≡ e → end ≡ 10000 * e
-exact-named end e x h = numbers end e (x .count) (x .is) h
-  where
-    numbers : (end e c : ℕ) → end ≡ 10000 * c → end / 10000 ≡ e → end ≡ 10000 * e
-    numbers end e c h k = omega arith
+pub exact-named : (end e : ℕ) → Exact end → end / 10000 ≡ e → end ≡ 10000 * e
+exact-named end e x h = sym (exact-whole end x) ∙ ap (λ (k : ℕ). 10000 * k) h
 
 fast-end : (a b : ℕ) (f : Phase) → f ≡ Fast a → f ≡ Fast b → a ≡ b
 fast-end a b f h k = cc

@@ -4,9 +4,13 @@ pub mod Crossing
 pub mod DepthBounds
 pub mod DepthLaws
 pub mod FirstRun
+pub mod Fixed
 pub mod GivesWay
+pub mod Growth
 pub mod JustBefore
 pub mod Lasting
+pub mod Legs
+pub mod Lines
 pub mod Minutes
 pub mod Numbers
 pub mod Onward
@@ -19,6 +23,8 @@ pub mod Replies
 pub mod Rising
 pub mod Rounding
 pub mod Runs
+pub mod SameRun
+pub mod Stated
 pub mod Unused
 pub mod WayLaws
 pub mod WayRamps

@@ -34,7 +34,7 @@ unfolding charAt
 char-most p n q = min-le-left (underAt p n q + afterAt p n q) (2 * q * backFace p)
 
 -- before t_f nothing has gone on after it
-after-none : (p : Panel) (n q : ℕ) → 1000 * n ≤ q * failureOf p → afterAt p n q ≡ 0
+pub after-none : (p : Panel) (n q : ℕ) → 1000 * n ≤ q * failureOf p → afterAt p n q ≡ 0
 after-none p n q h =
     let e : 1000 * n - q * failureOf p ≡ 0 = none (1000 * n) (q * failureOf p) h in
     let z : 2 * plainRate p * 0 ≡ 0 = omega arith in
@@ -54,7 +54,7 @@ under-none p n q h =
     none a b c h = omega arith
 
 -- from t_ch to t_f
-under-part : (p : Panel) (n q : ℕ) → q * startOf p ≤ 1000 * n → 1000 * n ≤ q * failureOf p
+pub under-part : (p : Panel) (n q : ℕ) → q * startOf p ≤ 1000 * n → 1000 * n ≤ q * failureOf p
     → underAt p n q ≡ 2 * slowRate p * (1000 * n - q * startOf p)
 under-part p n q h k =
     let e : min (1000 * n - q * startOf p) (q * (failureOf p - startOf p)) ≡ 1000 * n - q * startOf p =
@@ -229,30 +229,37 @@ on-way-throughout p f n m q z order pos rate short past all low high =
         let e : 1000 * (z + P * (q * f)) - P * 1000 * q * f ≡ 1000 * z = omega arith in
         rw e (omega arith)
 
--- a step on the way
-way-step :
+-- x at two times
+pub base-rises : (p : Panel) (n m q : ℕ) → n ≤ m → 2 * plainRate p * (1000 * n - q * failureOf p) ≤ 2 * plainRate p * (1000 * m - q * failureOf p)
+base-rises p n m q h =
+    mul-le-mul-left (2 * plainRate p) (let k : 1000 * n - q * failureOf p ≤ 1000 * m - q * failureOf p = omega arith in k)
+
+-- what a step takes of the way
+pub base-step : (p : Panel) (n m q : ℕ) → n ≤ m → q * failureOf p ≤ 1000 * n
+    → 2 * plainRate p * (1000 * m - q * failureOf p) - 2 * plainRate p * (1000 * n - q * failureOf p) ≡ 2000 * plainRate p * (m - n)
+base-step p n m q le past = difference (plainRate p) (1000 * n) (1000 * m) (q * failureOf p) (m - n) past (omega arith)
+  where
+    difference : (r N M G d : ℕ) → G ≤ N → M ≡ N + 1000 * d → 2 * r * (M - G) - 2 * r * (N - G) ≡ 2000 * r * d
+    difference r N M G d h k =
+        let e : M - G ≡ N - G + 1000 * d = omega arith in
+        rw (e, mul-add (2 * r) (N - G) (1000 * d)) (omega arith)
+
+-- a step on the way, past the back face too
+pub way-step :
     (p : Panel) (c k n m q : ℕ) → c * 2000 ≡ k → n ≤ m → q * failureOf p ≤ 1000 * n → charAt p n q < 2 * q * backFace p
-    → charAt p m q < 2 * q * backFace p
     → afterAt p m q
     ≡ afterAt p n q + c * (2 * plainRate p * (1000 * m - q * failureOf p) - 2 * plainRate p * (1000 * n - q * failureOf p))
-    → charAt p m q ≡ charAt p n q + k * plainRate p * (m - n)
-way-step p c k n m q times le past short short₁ step =
-    let e : 2 * plainRate p * (1000 * m - q * failureOf p) - 2 * plainRate p * (1000 * n - q * failureOf p)
-    ≡ 2 * plainRate p * (1000 * (m - n)) =
-    difference (2 * plainRate p) (1000 * n) (1000 * m) (q * failureOf p) (1000 * (m - n)) past (omega arith) in
-    numbers (charAt p m q) (charAt p n q) (underAt p m q) (underAt p n q) (2 * q * depthAtFailure p) (afterAt p m q) (afterAt p n q) c k
-    (plainRate p) (m - n) times (char-parts p m q short₁) (char-parts p n q short)
-    (under-full p m q (let late : q * failureOf p ≤ 1000 * m = omega arith in late)) (under-full p n q past) (rw e at step)
+    → underAt p m q + afterAt p m q ≡ charAt p n q + k * plainRate p * (m - n)
+way-step p c k n m q times le past short step =
+    numbers (charAt p n q) (underAt p m q) (underAt p n q) (2 * q * depthAtFailure p) (afterAt p m q) (afterAt p n q) c k
+    (plainRate p) (m - n) times (char-parts p n q short)
+    (under-full p m q (let late : q * failureOf p ≤ 1000 * m = omega arith in late)) (under-full p n q past)
+    (rw (base-step p n m q le past) at step)
   where
-    difference : (P N M G d : ℕ) → G ≤ N → M ≡ N + d → P * (M - G) - P * (N - G) ≡ P * d
-    difference P N M G d h k =
-        let e : M - G ≡ N - G + d = omega arith in
-        rw (e, mul-add P (N - G) d) (omega arith)
-
     numbers :
-        (c₁ c₀ u₁ u₀ u a₁ a₀ c k r d : ℕ) → c * 2000 ≡ k → c₁ ≡ u₁ + a₁ → c₀ ≡ u₀ + a₀ → u₁ ≡ u → u₀ ≡ u → a₁ ≡ a₀ + c * (2 * r * (1000 * d))
-        → c₁ ≡ c₀ + k * r * d
-    numbers c₁ c₀ u₁ u₀ u a₁ a₀ c k r d times e f g h l =
+        (c₀ u₁ u₀ u a₁ a₀ c k r d : ℕ) → c * 2000 ≡ k → c₀ ≡ u₀ + a₀ → u₁ ≡ u → u₀ ≡ u → a₁ ≡ a₀ + c * (2000 * r * d)
+        → u₁ + a₁ ≡ c₀ + k * r * d
+    numbers c₀ u₁ u₀ u a₁ a₀ c k r d times f g h l =
         let z : c * 2000 * r * d ≡ k * r * d = ap (λ (i : ℕ). i * r * d) times in
         omega arith
 
@@ -278,11 +285,6 @@ at-end p f n m q pos h all = all m q pos (mul-le-mul-right q h) (omega arith)
 -- short of the back face at the last time, so at the first
 short-before : (p : Panel) (n m q : ℕ) → n ≤ m → charAt p m q < 2 * q * backFace p → charAt p n q < 2 * q * backFace p
 short-before p n m q h k = lt-of-le-of-lt (char-ramp p .rises n m q h) k
-
--- x at two times
-base-rises : (p : Panel) (n m q : ℕ) → n ≤ m → 2 * plainRate p * (1000 * n - q * failureOf p) ≤ 2 * plainRate p * (1000 * m - q * failureOf p)
-base-rises p n m q h =
-    mul-le-mul-left (2 * plainRate p) (let k : 1000 * n - q * failureOf p ≤ 1000 * m - q * failureOf p = omega arith in k)
 
 module _
     (p : Panel) (n m q : ℕ) (order : startOf p ≤ failureOf p) (pos : 0 < q) (le : n ≤ m) (short : charAt p m q < 2 * q * backFace p)
@@ -318,7 +320,8 @@ module _
             let f : phaseAt p n q ≡ Fast e = at-start p (Fast e) n m q pos le all in
             let past : q * failureOf p ≤ 1000 * n =
             on-way p n q short₀ (λ u. untouched-not-fast (phaseAt p n q) e u f) (λ u. under-not-fast (phaseAt p n q) e u f) in
-            way-step p 2 4000 n m q refl le past short₀ short
+            char-parts p m q short
+            ∙ way-step p 2 4000 n m q refl le past short₀
             (fast-run (way p) (2 * plainRate p * (1000 * n - q * failureOf p)) (2 * plainRate p * (1000 * m - q * failureOf p)) q
             (base-rises p n m q le)
             (λ z l u s.
@@ -335,7 +338,8 @@ module _
             let past : q * failureOf p ≤ 1000 * n =
             on-way p n q short₀ (λ u. untouched-not-settled (phaseAt p n q) u f) (λ u. under-not-settled (phaseAt p n q) u f) in
             let y : ℕ = 2 * plainRate p * (1000 * m - q * failureOf p) in
-            way-step p 1 2000 n m q refl le past short₀ short
+            char-parts p m q short
+            ∙ way-step p 1 2000 n m q refl le past short₀
             (settled-run (way p) (2 * plainRate p * (1000 * n - q * failureOf p)) y q (base-rises p n m q le)
             (le-of-lt (way-not-over p m q short (let late : q * failureOf p ≤ 1000 * m = omega arith in late)))
             (λ z l u. on-way-throughout p Settled n m q z order pos k short past all l u))

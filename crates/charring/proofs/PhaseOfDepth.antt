@@ -2,7 +2,7 @@
 use Prim.Native.Nat.{ℕ, zero, suc, _+_, _-_, _*_, _/_, _≤_, _<_}
 use mathlib.Core.Path.{_≡_, refl, sym, ap, _∙_}
 use mathlib.Core.List.{List, [], _∷_}
-use mathlib.Core.Bool.{Bool, true, false}
+use mathlib.Core.Bool.{true, false}
 use native.Mathlib.Omega.{arith}
 use native.Mathlib.Nat.{mul-le-mul-left}
 use lib.Dec.{ltb}
@@ -14,43 +14,44 @@ use Rattle.charring.specs.Fires.{startOf, failureOf, plainRate, backFace
 use Rattle.charring.specs.Stages.{Stretch, way, charred, fastPart, settledPart}
 use Rattle.charring.specs.Depths.{afterAt, charAt}
 use Rattle.charring.specs.Phases.{phaseOn, phaseAt}
-use Rattle.charring.proofs.PhaseCases.{branch, WhereOn, fast, settled, rest, where-on, at-way}
+use Rattle.charring.specs.Fits.{phaseIn}
+use Rattle.charring.proofs.PhaseCases.{WhereOn, fast, settled, rest, where-on, at-way}
 use Rattle.charring.proofs.WayLaws.{Chain, last, next, way-chain, parts, parts-cover, positive}
 use Rattle.charring.proofs.WayLaws.{fast-part-end, fast-part-to, settled-part-end, settled-part-to, charred-past, charred-within, charred-settled, charred-none}
 use Rattle.charring.proofs.Runs.{on-empty}
 use Rattle.charring.proofs.PhaseLaws.{char-parts, under-full}
 
--- the phase at a depth d/q, half picometres: of the first stretch that ends deeper
+-- the phase at a depth d/q, half picometres, in a run that ends at `end`
+unfoldable pub inRun : ℕ → ℕ → ℕ → Phase
+inRun end d q = phaseIn (ltb d (2 * q * end)) end
+
+pub run-fast : (end d q : ℕ) → d < 2 * q * end → inRun end d q ≡ Fast (end / 10000)
+unfolding inRun
+run-fast end d q h = rw (inRun, lt-ltb d (2 * q * end) h)
+
+pub run-settled : (end d q : ℕ) → 2 * q * end ≤ d → inRun end d q ≡ Settled
+unfolding inRun
+run-settled end d q h = rw (inRun, le-ltb d (2 * q * end) h)
+
+-- and on a way: in the run of the first stretch that ends deeper
 unfoldable pub phaseOfDepth : List Stretch → ℕ → ℕ → Phase
 phaseOfDepth [] d q = Settled
-phaseOfDepth (s ∷ ss) d q =
-    elim (ltb d (2 * q * s .to)) [
-      | true ↦ elim (ltb d (2 * q * s .end)) [ true ↦ Fast (s .end / 10000) | false ↦ Settled ]
-      | false ↦ phaseOfDepth ss d q
-    ]
+phaseOfDepth (s ∷ ss) d q = elim (ltb d (2 * q * s .to)) [ true ↦ inRun (s .end) d q | false ↦ phaseOfDepth ss d q ]
 
 module _ (s : Stretch) (ss : List Stretch) (d q : ℕ) where
-  inner : Phase
-  inner = branch (ltb d (2 * q * s .end)) (Fast (s .end / 10000)) Settled
-
-  deep-cons : phaseOfDepth (s ∷ ss) d q ≡ branch (ltb d (2 * q * s .to)) inner (phaseOfDepth ss d q)
-  unfolding phaseOfDepth inner
-  deep-cons = refl
-
-  pub deep-fast : d < 2 * q * s .to → d < 2 * q * s .end → phaseOfDepth (s ∷ ss) d q ≡ Fast (s .end / 10000)
-  unfolding inner
-  deep-fast h k =
-      deep-cons ∙ ap (λ (b : Bool). branch b inner (phaseOfDepth ss d q)) (lt-ltb d (2 * q * s .to) h)
-      ∙ ap (λ (b : Bool). branch b (Fast (s .end / 10000)) Settled) (lt-ltb d (2 * q * s .end) k)
-
-  pub deep-settled : d < 2 * q * s .to → 2 * q * s .end ≤ d → phaseOfDepth (s ∷ ss) d q ≡ Settled
-  unfolding inner
-  deep-settled h k =
-      deep-cons ∙ ap (λ (b : Bool). branch b inner (phaseOfDepth ss d q)) (lt-ltb d (2 * q * s .to) h)
-      ∙ ap (λ (b : Bool). branch b (Fast (s .end / 10000)) Settled) (le-ltb d (2 * q * s .end) k)
+  pub deep-within : d < 2 * q * s .to → phaseOfDepth (s ∷ ss) d q ≡ inRun (s .end) d q
+  unfolding phaseOfDepth
+  deep-within h = rw (phaseOfDepth, lt-ltb d (2 * q * s .to) h)
 
   pub deep-rest : 2 * q * s .to ≤ d → phaseOfDepth (s ∷ ss) d q ≡ phaseOfDepth ss d q
-  deep-rest h = deep-cons ∙ ap (λ (b : Bool). branch b inner (phaseOfDepth ss d q)) (le-ltb d (2 * q * s .to) h)
+  unfolding phaseOfDepth
+  deep-rest h = rw (phaseOfDepth, le-ltb d (2 * q * s .to) h)
+
+  pub deep-fast : d < 2 * q * s .to → d < 2 * q * s .end → phaseOfDepth (s ∷ ss) d q ≡ Fast (s .end / 10000)
+  deep-fast h k = deep-within h ∙ run-fast (s .end) d q k
+
+  pub deep-settled : d < 2 * q * s .to → 2 * q * s .end ≤ d → phaseOfDepth (s ∷ ss) d q ≡ Settled
+  deep-settled h k = deep-within h ∙ run-settled (s .end) d q k
 
 deep-empty : (d q : ℕ) → phaseOfDepth [] d q ≡ Settled
 unfolding phaseOfDepth

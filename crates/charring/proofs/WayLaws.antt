@@ -24,6 +24,13 @@ pub record Exact (n : ℕ) : Type 0 where
   pub count : ℕ
   pub is : n ≡ 10000 * count
 
+-- so that the whole of it is named in hundred-thousandths of a mm
+pub exact-whole : (a : ℕ) → Exact a → 10000 * (a / 10000) ≡ a
+exact-whole a h = numbers a (h .count) (h .is)
+  where
+    numbers : (a k : ℕ) → a ≡ 10000 * k → 10000 * (a / 10000) ≡ a
+    numbers a k h = omega arith
+
 exact-min : (a b : ℕ) → Exact a → Exact b → Exact (min a b)
 exact-min a b h k = record { count = min (h .count) (k .count); is = numbers a b (h .count) (k .count) (h .is) (k .is) }
   where

@@ -1,0 +1,19 @@
+-- THE CLAIM: every row of the further table holds of the definitions, as every starred one does. Assumes nothing.
+use Rattle.numbers.specs.Largest.{largest}
+use Rattle.panel.specs.Lamellae.{lamellaeOf, thickness}
+use Rattle.section.specs.Sections.{countedFrom, total, lowest, highest, sectionOf}
+use Rattle.section.specs.Tests.{carries}
+use Rattle.limits.specs.Causes.{some}
+use Rattle.limits.specs.Refusals.{panelRefusal}
+use Rattle.charring.specs.Fires.{failureOf, k2, clad, firstEnd, linesFrom, bondLines, lineEnd}
+use Rattle.charring.specs.Stages.{stretches, way, charred}
+use Rattle.charring.specs.Depths.{charAt, effectiveAt}
+use Rattle.charring.specs.Phases.{phaseOn, phaseAt}
+use Rattle.load.specs.LoadMinute.{everyFrom, timeTest}
+use Rattle.cases.specs.Cases.{EveryRowHolds}
+use Rattle.cases.specs.Further.{further}
+use Rattle.cases.proofs.Tested.{phaseNumber, agree, all-tested}
+
+pub further-hold : EveryRowHolds further
+unfolding further agree phaseNumber largest lamellaeOf thickness countedFrom total lowest highest sectionOf carries some panelRefusal failureOf k2 clad firstEnd linesFrom bondLines lineEnd stretches way charred charAt effectiveAt phaseOn phaseAt everyFrom timeTest
+further-hold = all-tested further tt

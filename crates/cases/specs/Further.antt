@@ -1,0 +1,116 @@
+-- Charring worked through further, by hand from document 01's "Charring": what its starred lines leave out, with the phases.
+use Prim.Native.Nat.{ℕ}
+use mathlib.Core.List.{List, [], _∷_}
+use Rattle.panel.specs.declared.Board.{Board}
+use Rattle.panel.specs.declared.Cladding.{Cladding}
+use Rattle.panel.specs.declared.Cladding.the-variants.{One, Two}
+use Rattle.panel.specs.declared.Panel.{Panel}
+use Rattle.panel.specs.Boards.{charringStart}
+use Rattle.panel.specs.Lamellae.{nine}
+use Rattle.panel.specs.Worked.{board125}
+use Rattle.limits.specs.Refusals.{panelRefusal}
+use Rattle.charring.specs.declared.Phase.the-variants.{Fast, Settled}
+use Rattle.charring.specs.Depths.{charAt}
+use Rattle.cases.specs.Cases.{Case, gives, bears, inPhase, hundredths, hundredThousandths}
+
+-- Panels
+
+-- document 000, A 1.2: 40-20-20-20-40 mm with falling bond behind type F 12.5 that fails at 55 min, β 63; f 240, no moment
+abbrev pub five : Panel
+five =
+    record {
+      bond = 1;
+      rate = 63;
+      gap = 0;
+      strength = 240;
+      moment = 0;
+      «failure_time» = 55000;
+      cladding = One (board125 70);
+      count = 5;
+      directions = nine (1 ∷ 0 ∷ 1 ∷ 0 ∷ 1 ∷ []);
+      thicknesses = nine (400 ∷ 200 ∷ 200 ∷ 200 ∷ 400 ∷ []);
+    }
+
+-- one lamella 60 behind boards, β 65, f 240, no moment; gap, failure time and boards are open
+abbrev pub one : ℕ → ℕ → Cladding → Panel
+one gap failure boards =
+    record {
+      bond = 0;
+      rate = 65;
+      gap = gap;
+      strength = 240;
+      moment = 0;
+      «failure_time» = failure;
+      cladding = boards;
+      count = 1;
+      directions = nine (1 ∷ []);
+      thicknesses = nine (600 ∷ []);
+    }
+
+-- boards of type A with coefficient 100
+abbrev pub boardA : ℕ → Board
+boardA h = record { kind = 65; thickness = h; joint = 100 }
+
+-- G with M 3,000 behind one board of type F 12.5 that fails at 41 min
+abbrev pub gBehindF : Panel
+gBehindF =
+    record {
+      bond = 0;
+      rate = 65;
+      gap = 0;
+      strength = 240;
+      moment = 3000;
+      «failure_time» = 41000;
+      cladding = One (board125 70);
+      count = 3;
+      directions = nine (1 ∷ 0 ∷ 1 ∷ []);
+      thicknesses = nine (300 ∷ 400 ∷ 300 ∷ []);
+    }
+
+-- A 12.5 over A 15.0
+abbrev pub twoA : Panel
+twoA = one 0 0 (Two (boardA 125) (boardA 150))
+
+-- two F 12.5, t_f 80 min
+abbrev pub twoF : Panel
+twoF = one 0 80000 (Two (board125 70) (board125 70))
+
+-- A 9.0 over a wide gap
+abbrev pub wideA : Panel
+wideA = one 1 0 (One (boardA 90))
+
+-- Rows
+
+unfoldable pub further : List Case
+further =
+    -- all four are accepted
+    gives (panelRefusal five) 0
+    ∷ gives (panelRefusal twoA) 0
+    ∷ gives (panelRefusal twoF) 0
+    ∷ gives (panelRefusal wideA) 0
+    -- k2·β from 21 min on: 16.6005 mm at t_f, and from there 2β up to 25 mm, which is t_ch < t_f's end
+    ∷ gives (charAt five 55 1) (hundredThousandths 1660050 1)
+    ∷ inPhase five 55 1 (Fast 2500000)
+    -- 25 mm after 8.3995/1.26 min more; then β
+    ∷ gives (charAt five 776995 12600) (hundredThousandths 2500000 12600)
+    ∷ inPhase five 776995 12600 Settled
+    -- the first line, at 40 mm: its run is cut off by the next line at 60 mm
+    ∷ gives (charAt five 215399 2520) (hundredThousandths 4000000 2520)
+    ∷ inPhase five 215399 2520 (Fast 6000000)
+    -- there the next run starts, up to the line at 80 mm
+    ∷ gives (charAt five 85133 840) (hundredThousandths 6000000 840)
+    ∷ inPhase five 85133 840 (Fast 8000000)
+    -- G behind type F: without the first run behind boards R would be 129
+    ∷ bears gBehindF 117
+    -- two boards of type A: t_ch 42,000; 2β up to 25 mm, which comes before 84 min; then β
+    ∷ gives (charringStart 0 (twoA .cladding)) 42000
+    ∷ gives (charAt twoA 50 1) (hundredths 1040 1)
+    ∷ gives (charAt twoA 70 1) (hundredths 3070 1)
+    -- two boards of type F: k2 by the inner board, from 49 min on, then 2β
+    ∷ gives (charAt twoF 80 1) (hundredThousandths 1561625 1)
+    ∷ gives (charAt twoF 85 1) (hundredThousandths 2211625 1)
+    -- a wide gap: t_ch = t_f is 2.2 min, so 2β up to 4.4 min, 2.86 mm; then β
+    ∷ inPhase wideA 3 1 (Fast 286000)
+    ∷ gives (charAt wideA 44 10) (hundredths 286 10)
+    ∷ gives (charAt wideA 10 1) (hundredths 650 1)
+    ∷ []
