@@ -6,11 +6,10 @@ use lib.ListN.{length, length-append}
 use native.Mathlib.Omega.{arith}
 use Rattle.panel.specs.declared.Panel.{Panel}
 use Rattle.limits.specs.Lines.{refusal, answer}
-use Rattle.limits.proofs.FirstLine.{none-first, first-some, turned-back}
+use Rattle.limits.proofs.FirstLine.{turned-above, open-above, turned-back}
 use Rattle.record.specs.Layouts.{panelOf}
 use Rattle.record.specs.Refusals.{recordLines, recordRefusal}
 use Rattle.record.specs.Answers.{reading, blank, decode}
-use Rattle.record.proofs.Sound.{accepted-lines}
 use Rattle.layers.specs.Layers.{eiMinute}
 use Rattle.grades.specs.Grades.{gradeOf, reiOf}
 use Rattle.charring.specs.Depths.{micrometresAt, tenthsAt}
@@ -41,12 +40,12 @@ read-panel b e = rw e refl
 -- a refused record is refused whatever the space
 pub card-turned : (b text space : List ℕ) → (recordRefusal b ≡ 0 → ⊥) → cardRefusal b text space ≡ recordRefusal b
 unfolding cardRefusal recordRefusal
-card-turned b text space ne = first-some (recordLines b (panelOf b)) (refusal (shortLine text space ∷ [])) ne
+card-turned b text space ne = sym (turned-above (recordLines b) (shortLine text space ∷ []) refl ne)
 
 -- of an accepted one only the space is asked
 pub card-open : (b text space : List ℕ) → recordRefusal b ≡ 0 → cardRefusal b text space ≡ refusal (shortLine text space ∷ [])
-unfolding cardRefusal
-card-open b text space e = none-first (recordLines b (panelOf b)) (accepted-lines b e) (refusal (shortLine text space ∷ []))
+unfolding cardRefusal recordRefusal
+card-open b text space e = sym (open-above (recordLines b) (shortLine text space ∷ []) tt refl e refl)
 
 pub card-refused : (b space : List ℕ) (n : ℕ) → n ≡ recordRefusal b → (n ≡ 0 → ⊥) → CardWritten b space (Refused n) space
 card-refused b space n e ne =

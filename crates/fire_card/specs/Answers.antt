@@ -31,7 +31,7 @@ textAfter text space = answer (refusal (shortLine text space ∷ [])) (λ (n : �
 
 -- the card of the bytes b: lines 1 to 13, then 14 for this very card
 unfoldable pub cardRefusal : List ℕ → List ℕ → List ℕ → ℕ
-cardRefusal b text space = refusal (recordLines b (panelOf b) ++ (shortLine text space ∷ []))
+cardRefusal b text space = refusal (recordLines b ++ (shortLine text space ∷ []))
 
 -- what the card call answers to the bytes b and a lent space, and what it leaves there. The card's text rests on the load minute,
 -- which is 01's wherever the record is accepted

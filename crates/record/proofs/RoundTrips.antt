@@ -17,7 +17,7 @@ use Rattle.record.specs.Layouts.{recordLength, panelOf, encode}
 use Rattle.record.specs.Refusals.{recordRefusal, writeRefusal}
 use Rattle.record.specs.Answers.{decode, reading, blank, writeAnswer, spaceAfter}
 use Rattle.record.proofs.Lengths.{length-encode}
-use Rattle.record.proofs.RecordLines.{write-taken, write-accepted}
+use Rattle.record.proofs.Writes.{write-taken, write-accepted}
 use Rattle.record.proofs.Sound.{accepted-sound, record-panel}
 use Rattle.record.proofs.There.{panel-there}
 use Rattle.record.proofs.Accepting.{encode-accepted}

@@ -1,7 +1,10 @@
 -- `record::calls::write` meets its contract: the record is stored where no line and no want of space turns it back.
 -- Assumes nothing.
 use Rattle.limits.proofs.Accepted.{accepted-loaded}
-use Rattle.record.proofs.RecordLines.{write-refused, write-short, answers-refused, answers-written}
+use Rattle.limits.proofs.FirstLine.{turned-above}
+use Rattle.limits.specs.Refusals.{panelLines, panelRefusal}
+use Rattle.record.proofs.Writes.{short, write-short, answers-refused, answers-written}
+use Rattle.record.specs.Refusals.{writeRefusal}
 use borrow.Author.Needs.{needs}
 use borrow.Author.Tests.{eqb-false}
 use denote.Ref.{now}
@@ -10,11 +13,12 @@ use Rattle.record.proofs.calls.write.Statement.{statement}
 use Rattle.record.proofs.calls.write.Tie as tie
 
 returns : tie.Need-returns
+unfolding writeRefusal panelRefusal
 returns c =
     let a = c .before .before .before .args in
     let r = c .before .panel-refusal in
     let z = c .if1 .taken in
-    answers-refused (a .p) (now (a .out)) (r .result) (write-refused (a .p) (now (a .out)) (r .result) (r .ensures) z) z
+    answers-refused (a .p) (now (a .out)) (r .result) (turned-above (panelLines (a .p)) (short (a .p) (now (a .out))) (r .ensures) z) z
 
 record-length-requires : tie.Need-record-length-requires
 record-length-requires c κs =

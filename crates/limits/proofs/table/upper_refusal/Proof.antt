@@ -1,8 +1,7 @@
--- `record::lines::upper_refusal` meets its contract: the calls are the lines.
--- Assumes nothing.
+-- `limits::table::upper_refusal` meets its contract: the calls are the lines. Assumes nothing.
 use borrow.Author.Needs.{needs}
-use Rattle.record.proofs.lines.upper_refusal.Statement.{statement}
-use Rattle.record.proofs.lines.upper_refusal.Tie as tie
+use Rattle.limits.proofs.table.upper_refusal.Statement.{statement}
+use Rattle.limits.proofs.table.upper_refusal.Tie as tie
 
 returns : tie.Need-returns
 returns c = cc
@@ -12,4 +11,4 @@ upper-refusal-spec =
     tie.close
     (tie.spec (λ c κs. search needs) (λ c κs. search needs) (λ c κs. search needs) (λ c κs. search needs)
     (λ c κs. search needs) (λ c κs. search needs) (λ c κs. search needs) (λ c κs. search needs)
-    (λ c κs. search needs) (λ c κs. search needs) returns)
+    (λ c κs. search needs) returns)
