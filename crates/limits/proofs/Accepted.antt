@@ -22,29 +22,18 @@ use Rattle.section.specs.Tests.{SectionFits, depthPasses}
 use Rattle.limits.specs.declared.ByteFaults.{ByteFaults}
 use Rattle.limits.specs.Lines.{refusal, NoneFits, causeOf}
 use Rattle.limits.specs.Causes.{badLoad, badBoard, badBoards, badCount, badLamella, badLamellae, some}
-use Rattle.limits.specs.Refusals.{noBytes, tableLines, panelLines, panelRefusal, Loaded}
+use Rattle.limits.specs.Refusals.{noBytes, tableLines, panelLines, panelRefusal}
 use Rattle.limits.proofs.FirstLine.{First, accepted-iff, refusal-first, cause-none}
 use Rattle.limits.proofs.Tests.{some-more}
 
--- Lines that do not fit
-
--- what line 5 leaves of the load, and line 10 of the count
-pub loaded : (p : Panel) → badLoad p ≡ false → badCount (p .count) ≡ false → Loaded p
-loaded p five ten =
+-- what lines 5, 10 and 11 leave: the section test fits its numbers
+pub section-fits : (p : Panel) → badLoad p ≡ false → badCount (p .count) ≡ false → badLamellae p ≡ false → SectionFits p
+section-fits p five ten eleven =
     let load = or-none (outside 1 400 (p .strength)) (ltb 1000000 (p .moment)) five in
     record {
       strength = in-range 1 400 (p .strength) (load .0) .1;
       moment = ltb-false 1000000 (p .moment) (load .1);
       count = in-range 1 9 (p .count) ten .1;
-    }
-
--- with line 11, the section test fits its numbers
-pub section-fits : (p : Panel) → Loaded p → badLamellae p ≡ false → SectionFits p
-section-fits p l eleven =
-    record {
-      strength = l .strength;
-      moment = l .moment;
-      count = l .count;
       thickness =
           ltb-false 4000 (thickness (lamellae p)) (or-none (some badLamella (lamellae p)) (ltb 4000 (thickness (lamellae p))) eleven .1);
     }
@@ -65,24 +54,21 @@ pub accepted-cause : (p : Panel) → panelRefusal p ≡ 0 → (n : ℕ) → caus
 unfolding panelRefusal
 accepted-cause p e = cause-none (panelLines p) tt e
 
-pub accepted-loaded : (p : Panel) → panelRefusal p ≡ 0 → Loaded p
-accepted-loaded p e = loaded p (accepted-cause p e 5) (accepted-cause p e 10)
-
 pub accepted-fits : (p : Panel) → panelRefusal p ≡ 0 → SectionFits p
-accepted-fits p e = section-fits p (accepted-loaded p e) (accepted-cause p e 11)
+accepted-fits p e = section-fits p (accepted-cause p e 5) (accepted-cause p e 10) (accepted-cause p e 11)
 
 -- an accepted panel passes at depth 0
 pub accepted-passes : (p : Panel) → panelRefusal p ≡ 0 → depthPasses p 0 ≡ true
 accepted-passes p e = not-false (depthPasses p 0) (accepted-cause p e 13)
 
--- where the table of a panel in its bytes refuses nothing, the bytes have no fault and the panel is accepted
-pub table-accepted : (f : ByteFaults) (p : Panel) → refusal (tableLines f p) ≡ 0 → (f ≡ noBytes) × (panelRefusal p ≡ 0)
+-- where the table of a panel in its bytes refuses nothing, the panel alone is accepted
+pub table-accepted : (f : ByteFaults) (p : Panel) → refusal (tableLines f p) ≡ 0 → panelRefusal p ≡ 0
 unfolding panelRefusal
 table-accepted f p e =
     let none = cause-none (tableLines f p) tt e in
     let ten = or-none (f .«lamella_count») (badCount (p .count)) (none 10) in
-    let same : f ≡ noBytes = λ i. record { length = none 1 i; version = none 2 i; «board_count» = none 6 i; «lamella_count» = ten .0 i } in
-    (same, ap (λ (g : ByteFaults). refusal (tableLines g p)) (sym same) ∙ e)
+    let same : noBytes ≡ f = sym (λ i. record { length = none 1 i; version = none 2 i; «board_count» = none 6 i; «lamella_count» = ten .0 i }) in
+    ap (λ (g : ByteFaults). refusal (tableLines g p)) same ∙ e
 
 -- The boards and lamellae of an accepted panel
 

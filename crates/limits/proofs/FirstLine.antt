@@ -15,7 +15,7 @@ pick-none true n below t e = absurd (let h : 0 < n = ltb→lt 0 n t in let z : �
 pick-none false n below t e = (refl, e)
 
 -- where nothing is refused, no line fits
-pub first-none : (ls : List Line) → T (numbered ls) → refusal ls ≡ 0 → NoneFits ls
+first-none : (ls : List Line) → T (numbered ls) → refusal ls ≡ 0 → NoneFits ls
 first-none [] t e = tt
 first-none (l ∷ ls) t e =
     let h = pick-none (l .fits) (l .number) (refusal ls) (T-left (ltb 0 (l .number)) (numbered ls) t) e in
@@ -76,9 +76,9 @@ refusal-first (l ∷ ls) ne = go (l .fits) refl (refusal-first ls) ne
 
 -- A table, then the lines of a call: any table, and any further lines
 
-above : (table further : List Line) → (refusal table ≡ 0 → ⊥) → refusal (table ++ further) ≡ refusal table
-above [] further ne = absurd (ne refl)
-above (l ∷ ls) further ne = go (l .fits) (above ls further) ne
+fits-above : (table further : List Line) → (refusal table ≡ 0 → ⊥) → refusal (table ++ further) ≡ refusal table
+fits-above [] further ne = absurd (ne refl)
+fits-above (l ∷ ls) further ne = go (l .fits) (fits-above ls further) ne
   where
     go :
         (c : Bool)
@@ -88,18 +88,18 @@ above (l ∷ ls) further ne = go (l .fits) (above ls further) ne
     go true rest k = refl
     go false rest k = rest k
 
-past : (table further : List Line) → NoneFits table → refusal (table ++ further) ≡ refusal further
-past [] further h = refl
-past (l ∷ ls) further h = rw (h .0) (past ls further (h .1))
+none-above : (table further : List Line) → NoneFits table → refusal (table ++ further) ≡ refusal further
+none-above [] further h = refl
+none-above (l ∷ ls) further h = rw (h .0) (none-above ls further (h .1))
 
 -- turned back above: where a line of the table fits, that is the refusal
 pub turned-above : (table further : List Line) {n : ℕ} → n ≡ refusal table → (n ≡ 0 → ⊥) → n ≡ refusal (table ++ further)
-turned-above table further e ne = e ∙ sym (above table further (λ z. ne (e ∙ z)))
+turned-above table further e ne = e ∙ sym (fits-above table further (λ z. ne (e ∙ z)))
 
 -- open above: where none fits, the further lines decide
 pub open-above :
     (table further : List Line) → T (numbered table) → {n m : ℕ} → n ≡ refusal table → n ≡ 0 → m ≡ refusal further → m ≡ refusal (table ++ further)
-open-above table further t e z e′ = e′ ∙ sym (past table further (first-none table t (sym e ∙ z)))
+open-above table further t e z e′ = e′ ∙ sym (none-above table further (first-none table t (sym e ∙ z)))
 
 -- open in both: where nothing is refused, neither the table nor the further lines refuse
 pub open-both :

@@ -1,6 +1,6 @@
 -- Document 01, "Where a record is turned back": the table of a panel and of the bytes in which it may stand. Lines 14 and 15 are
 -- about the call.
-use Prim.Native.Nat.{ℕ, _≤_}
+use Prim.Native.Nat.{ℕ}
 use mathlib.Core.List.{List, [], _∷_}
 use mathlib.Core.Bool.{false, _||_}
 use Rattle.panel.specs.declared.Panel.{Panel}
@@ -48,9 +48,3 @@ panelLines p = tableLines noBytes p
 -- 0: the panel is accepted
 unfoldable pub panelRefusal : Panel → ℕ
 panelRefusal p = refusal (panelLines p)
-
--- what lines 5 and 10 leave, under which lines 11 to 13 are worked out
-pub record Loaded (p : Panel) : Type 0 where
-  pub strength : p .strength ≤ 400
-  pub moment : p .moment ≤ 1000000
-  pub count : p .count ≤ 9

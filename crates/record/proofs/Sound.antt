@@ -86,4 +86,4 @@ record-lamellae b h =
 -- the panel of an accepted record is accepted
 pub record-panel : (b : List ℕ) → recordRefusal b ≡ 0 → panelRefusal (panelOf b) ≡ 0
 unfolding recordRefusal
-record-panel b e = table-accepted (byteFaults b) (panelOf b) e .1
+record-panel b e = table-accepted (byteFaults b) (panelOf b) e
