@@ -13,26 +13,19 @@ use crate::causes::none_along;
 use crate::lines::line_or;
 use panel::Panel;
 ghost use mathlib.Core.Path.{_≡_};
-ghost use Rattle.limits.specs.Lines.{refusal, downTo, below};
+ghost use Rattle.limits.specs.Lines.{refusal, downTo};
 ghost use Rattle.limits.specs.Refusals.{tableLines};
 
-// Lines 6 to 10, from the bottom up.
-fn boards_refusal(f: ByteFaults, p: Panel) -> u8
-    ensures { λ r. ⌜ r ≡ refusal (downTo 10 (below 5 (tableLines f p))) ⌝ }
+// Lines 1 to 10, from the bottom up.
+fn upper_refusal(f: ByteFaults, p: Panel) -> u8
+    ensures { λ r. ⌜ r ≡ refusal (downTo 10 (tableLines f p)) ⌝ }
 {
     let c = p.cladding;
     let n = line_or(10, f.lamella_count | bad_count(p.count), 0);
     let n = line_or(9, bad_failure_time(p), n);
     let n = line_or(8, bad_boards(c), n);
     let n = line_or(7, bad_types(c), n);
-    line_or(6, f.board_count, n)
-}
-
-// Lines 1 to 10, from the bottom up.
-fn upper_refusal(f: ByteFaults, p: Panel) -> u8
-    ensures { λ r. ⌜ r ≡ refusal (downTo 10 (tableLines f p)) ⌝ }
-{
-    let n = boards_refusal(f, p);
+    let n = line_or(6, f.board_count, n);
     let n = line_or(5, bad_load(p), n);
     let n = line_or(4, bad_rate(p), n);
     let n = line_or(3, bad_bond_or_gap(p), n);
