@@ -15,7 +15,7 @@ use Rattle.panel.specs.Lamellae.{lamellae, thickness}
 use Rattle.limits.specs.Causes.{badBoard, badBoards, badLamella, some}
 use Rattle.limits.specs.Refusals.{panelRefusal}
 use Rattle.numbers.proofs.Booleans.{or-none, in-range}
-use Rattle.limits.proofs.Accepted.{none-fits}
+use Rattle.limits.proofs.Accepted.{accepted-cause}
 use Rattle.charring.specs.Fires.{startOf, failureOf}
 use Rattle.charring.proofs.DepthLaws.{k2-bound}
 use Rattle.charring.specs.Fits.{FireFits}
@@ -59,16 +59,15 @@ failure-within false start given e h = (omega arith, omega arith)
 pub fire-fits : (p : Panel) → panelRefusal p ≡ 0 → FireFits p
 unfolding failureOf
 fire-fits p e =
-    let h = none-fits p e in
-    let boards = h .1 .1 .1 .1 in
-    let start = start-most (p .gap) (p .cladding) (boards .0) in
+    let none = accepted-cause p e in
+    let start = start-most (p .gap) (p .cladding) (none 8) in
     let f = typeF (p .cladding) in
     let given = p .«failure_time» in
-    let nine = or-none (f && outside (startOf p) 360000 given) (not f && not (eqb given 0)) (boards .1 .0) in
+    let nine = or-none (f && outside (startOf p) 360000 given) (not f && not (eqb given 0)) (none 9) in
     let failure = failure-within f (startOf p) given (nine .0) start in
-    let count = in-range 1 9 (p .count) (boards .1 .1 .0) in
+    let count = in-range 1 9 (p .count) (none 10) in
     record {
-      rate = in-range 50 100 (p .rate) (h .1 .0) .1;
+      rate = in-range 50 100 (p .rate) (none 4) .1;
       start = start;
       failure = failure .1;
       order = failure .0;
@@ -76,9 +75,9 @@ fire-fits p e =
       least = count .0;
       count = count .1;
       thick = ltb-false 4000 (thickness (lamellae p))
-          (or-none (some badLamella (lamellae p)) (ltb 4000 (thickness (lamellae p))) (boards .1 .1 .1 .0) .1);
+          (or-none (some badLamella (lamellae p)) (ltb 4000 (thickness (lamellae p))) (none 11) .1);
     }
 
 -- and chars
 pub rate-least : (p : Panel) → panelRefusal p ≡ 0 → 50 ≤ p .rate
-rate-least p e = in-range 50 100 (p .rate) (none-fits p e .1 .0) .0
+rate-least p e = in-range 50 100 (p .rate) (accepted-cause p e 4) .0

@@ -18,7 +18,7 @@ use Rattle.panel.specs.declared.Panel.{Panel}
 use Rattle.panel.specs.Lamellae.{Lamella, lamella, lamellae, lamellaeOf, thickness}
 use Rattle.limits.specs.Causes.{badLamella, some}
 use Rattle.limits.specs.Refusals.{panelRefusal}
-use Rattle.limits.proofs.Accepted.{none-fits}
+use Rattle.limits.proofs.Accepted.{accepted-cause}
 use Rattle.charring.specs.Fires.{tenth, backFace, linesFrom, bondLines, lineEnd}
 use Rattle.charring.specs.Charring.{IsBondLine}
 use Rattle.charring.proofs.AcceptedPhases.{thick}
@@ -139,7 +139,7 @@ lines-deeper p e = go (eqb (p .bond) 1)
     go : (b : Bool) → Deeper 0 (elim b as (λ _. List ℕ) [ true ↦ linesFrom 0 (lamellae p) | false ↦ [] ]) (backFace p)
     go true =
         deeper-from 0 (lamellae p) (backFace p)
-        (or-none (some badLamella (lamellae p)) (ltb 4000 (thickness (lamellae p))) (none-fits p e .1 .1 .1 .1 .1 .1 .1 .0) .0) (thick p e)
+        (or-none (some badLamella (lamellae p)) (ltb 4000 (thickness (lamellae p))) (accepted-cause p e 11) .0) (thick p e)
         (omega arith)
     go false = let k : 0 < backFace p = omega (arith, thick p e) in face k
 

@@ -1,21 +1,18 @@
 -- What the open calls answer where a line turns the panel or the call back, and where none does.
 use Prim.Native.Nat.{ℕ, suc, _+_, _≤_, _<_}
-use mathlib.Core.Path.{_≡_, sym, ap, _∙_}
-use mathlib.Core.Bool.{Bool}
+use mathlib.Core.Path.{_≡_, refl, sym, ap, _∙_}
 use mathlib.Core.List.{List, [], _∷_, _++_, append-assoc}
 use native.Mathlib.Numerals.{add-one}
 use borrow.Author.Tests.{ltb-false, lt-ltb, le-ltb}
 use lib.Dec.{ltb}
 use lib.ListN.{length, drop, getD, set}
 use lib.Seq.{drop-cons, set-append-seam}
-use Rattle.numbers.specs.Choice.{pick}
 use Rattle.numbers.specs.Firsts.{firsts}
 use Rattle.numbers.proofs.FirstValues.{length-firsts}
 use Rattle.panel.specs.declared.Panel.{Panel}
-use Rattle.limits.specs.Lines.{line}
+use Rattle.limits.specs.Lines.{Line, line}
 use Rattle.limits.specs.Refusals.{panelLines, panelRefusal}
-use Rattle.limits.proofs.Accepted.{none-fits}
-use Rattle.limits.proofs.FirstLine.{first-none, none-first, none-left, said, unsaid, answered, turned-back}
+use Rattle.limits.proofs.FirstLine.{cause-none, open-above, open-both, answered, turned-back}
 use Rattle.charring.specs.Fits.{FireFits}
 use Rattle.charring.proofs.Accepted.{fire-fits}
 use Rattle.charring.specs.declared.TableAnswer.the-variants.{Filled, Refused}
@@ -23,23 +20,15 @@ use Rattle.charring.specs.Answers.{minuteRefusal, depthTable, tableRefus
 
 -- A minute
 
-pub minute-refused : (p : Panel) (minute n : ℕ) → n ≡ panelRefusal p → (n ≡ 0 → ⊥) → n ≡ minuteRefusal p minute
-unfolding minuteRefusal panelRefusal
-minute-refused p minute n e ne = said (panelLines p) (pick (ltb 360 minute) 15 0) n e ne
-
-pub minute-open : (p : Panel) (minute n m : ℕ) → n ≡ panelRefusal p → n ≡ 0 → m ≡ pick (ltb 360 minute) 15 0 → m ≡ minuteRefusal p minute
-unfolding minuteRefusal panelRefusal
-minute-open p minute n m e z e′ = unsaid (panelLines p) tt (pick (ltb 360 minute) 15 0) n m e z e′
+abbrev pub late : ℕ → List Line
+late minute = line 15 (ltb 360 minute) ∷ []
 
 -- no refusal: the panel is accepted and the minute is asked for
 pub minute-taken : (p : Panel) (minute : ℕ) → minuteRefusal p minute ≡ 0 → (panelRefusal p ≡ 0) × (minute ≤ 360)
 unfolding minuteRefusal panelRefusal
 minute-taken p minute e =
-    let late = line 15 (ltb 360 minute) ∷ [] in
-    let h = first-none (panelLines p ++ late) tt e in (
-      none-first (panelLines p) (none-left (panelLines p) late h) 0,
-      ltb-false 360 minute (h .1 .1 .1 .1 .1 .1 .1 .1 .1 .1 .0),
-    )
+    let both = open-both (panelLines p) (late minute) tt e in
+    (both .0, ltb-false 360 minute (cause-none (late minute) tt (both .1) 15))
 
 -- and its depths at the minute fit
 pub minute-fits : (p : Panel) (minute : ℕ) {n : ℕ} → n ≡ minuteRefusal p minute → n ≡ 0 → FireFits p × (minute ≤ 360)
@@ -61,16 +50,16 @@ fill-more f l i out h e =
     ∙ set-append-seam (firsts f i) (getD l i 0) (drop (suc i) l) (f i)
     ∙ sym (append-assoc (firsts f i) (f i ∷ []) (drop (suc i) l)))
 
-pub table-refused : (p : Panel) (space : List ℕ) (n : ℕ) → n ≡ panelRefusal p → (n ≡ 0 → ⊥) → n ≡ tableRefusal p space
-unfolding tableRefusal panelRefusal
-table-refused p space n e ne = said (panelLines p) (pick (ltb (length space) 361) 14 0) n e ne
-
-table-open : (p : Panel) (space : List ℕ) → panelRefusal p ≡ 0 → tableRefusal p space ≡ pick (ltb (length space) 361) 14 0
-unfolding tableRefusal
-table-open p space e = none-first (panelLines p) (none-fits p e) (pick (ltb (length space) 361) 14 0)
+abbrev pub short : List ℕ → List Line
+short space = line 14 (ltb (length space) 361) ∷ []
 
 pub table-short : (p : Panel) (space : List ℕ) → panelRefusal p ≡ 0 → length space < 361 → 14 ≡ tableRefusal p space
-table-short p space e h = sym (table-open p space e ∙ ap (λ (t : Bool). pick t 14 0) (lt-ltb (length space) 361 h))
+unfolding tableRefusal panelRefusal
+table-short p space e h = open-above (panelLines p) (short space) tt refl e (rw (lt-ltb (length space) 361 h) refl)
+
+table-taken : (p : Panel) (space : List ℕ) → panelRefusal p ≡ 0 → 361 ≤ length space → tableRefusal p space ≡ 0
+unfolding tableRefusal panelRefusal
+table-taken p space e h = sym (open-above (panelLines p) (short space) tt refl e (rw (le-ltb (length space) 361 h) refl))
 
 pub table-turned :
     (p : Panel) (space : List ℕ) (n : ℕ) → n ≡ tableRefusal p space → (n ≡ 0 → ⊥)
@@ -84,7 +73,7 @@ pub table-filled :
     → (Filled ≡ tableAnswer p space) × (after ≡ tableAfter p space)
 unfolding tableAnswer tableAfter
 table-filled p space after e h stored =
-    let z : tableRefusal p space ≡ 0 = table-open p space e ∙ ap (λ (t : Bool). pick t 14 0) (le-ltb (length space) 361 h) in (
+    let z = table-taken p space e h in (
       answered (tableRefusal p space) Refused Filled z,
       stored ∙ answered (tableRefusal p space) (λ (k : ℕ). space) (depthTable p ++ drop 361 space) z,
     )

@@ -1,13 +1,15 @@
 -- Unused places do not matter: panels that differ at most there have the same depths and phases and meet the same refusals.
 use Prim.Native.Nat.{ℕ, _-_, _*_}
-use mathlib.Core.Path.{_≡_, refl, ap₂}
-use mathlib.Core.List.{List, []}
+use mathlib.Core.Path.{_≡_, refl, ap, ap₂}
+use mathlib.Core.List.{List, [], _++_}
 use mathlib.Core.Bool.{true, false}
 use lib.Dec.{eqb, leb, ltb}
 use Rattle.numbers.proofs.FirstValues.{firsts-agree}
 use Rattle.panel.specs.declared.Panel.{Panel}
 use Rattle.panel.specs.Lamellae.{Lamella, SameUsed}
 use Rattle.panel.proofs.Used.{same-lamellae}
+use Rattle.limits.specs.Lines.{Line, refusal}
+use Rattle.limits.proofs.Unused.{lines-unused}
 use Rattle.charring.specs.Fires.{startOf, failureOf, plainRate, backFace, firstEnd, linesFrom, bondLines}
 use Rattle.charring.specs.Stages.{Stretch, way}
 use Rattle.charring.specs.Depths.{charAt, effectiveAt, micrometresAt, tenthsAt}
@@ -24,6 +26,7 @@ use Rattle.charring.specs.Answers.{
   tableAnswer,
   tableAfter,
 }
+use Rattle.charring.proofs.Replies.{late, short}
 
 -- Times, runs and lines
 
@@ -86,17 +89,11 @@ phase-same p q h n m =
 
 pub minute-refusal-same : (p q : Panel) → SameUsed p q → (minute : ℕ) → minuteRefusal p minute ≡ minuteRefusal q minute
 unfolding minuteRefusal
-minute-refusal-same p q h minute =
-    rw
-    (same-lamellae p q h, h .bond, h .gap, h .rate, h .strength, h .moment, h .failureTime, h .cladding, h .count)
-    refl
+minute-refusal-same p q h minute = ap (λ (ls : List Line). refusal (ls ++ late minute)) (lines-unused p q h)
 
 table-refusal-same : (p q : Panel) → SameUsed p q → (space : List ℕ) → tableRefusal p space ≡ tableRefusal q space
 unfolding tableRefusal
-table-refusal-same p q h space =
-    rw
-    (same-lamellae p q h, h .bond, h .gap, h .rate, h .strength, h .moment, h .failureTime, h .cladding, h .count)
-    refl
+table-refusal-same p q h space = ap (λ (ls : List Line). refusal (ls ++ short space)) (lines-unused p q h)
 
 pub phase-unused : (p q : Panel) → SameUsed p q → (minute : ℕ) → phaseAnswer p minute ≡ phaseAnswer q minute
 unfolding phaseAnswer

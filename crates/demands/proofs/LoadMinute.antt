@@ -100,8 +100,8 @@ pub demand-3-of-call : Demand3OfCall
 unfolding recordRefusal
 demand-3-of-call b space k e =
     let p = panelOf b in
-    let h = text-stands (recordLines b p) (cardText p) space tt k e in
+    let h = text-stands (recordLines b) (cardText p) space tt k e in
     subst (λ (text : List ℕ). Demanded p (printedMinute text)) (sym (h .1 .1)) (of-card b (h .0))
 
 pub demand-3-of-c : Demand3OfC
-demand-3-of-c b space k e = demand-3-of-call b space k (written-bytes (recordLines b (panelOf b)) (cardText (panelOf b)) space k e)
+demand-3-of-c b space k e = demand-3-of-call b space k (written-bytes (recordLines b) (cardText (panelOf b)) space k e)

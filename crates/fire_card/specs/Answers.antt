@@ -31,10 +31,10 @@ textAfter table text space = answer (textRefusal table text space) (λ (n : ℕ)
 
 -- the card of the bytes b: lines 1 to 13, then 14
 abbrev pub cardAnswer : List ℕ → List ℕ → CardAnswer
-cardAnswer b space = textAnswer (recordLines b (panelOf b)) (cardText (panelOf b)) space
+cardAnswer b space = textAnswer (recordLines b) (cardText (panelOf b)) space
 
 abbrev pub cardAfter : List ℕ → List ℕ → List ℕ
-cardAfter b space = textAfter (recordLines b (panelOf b)) (cardText (panelOf b)) space
+cardAfter b space = textAfter (recordLines b) (cardText (panelOf b)) space
 
 -- the text of a refusal, whatever its number: 14 alone
 abbrev pub refusalAnswer : ℕ → List ℕ → CardAnswer

@@ -9,7 +9,7 @@ use Rattle.panel.specs.declared.Panel.{Panel}
 use Rattle.limits.specs.Causes.{badBoard, badBoards}
 use Rattle.limits.specs.Refusals.{panelRefusal}
 use Rattle.numbers.proofs.Booleans.{or-none, in-range}
-use Rattle.limits.proofs.Accepted.{none-fits, lamella-within}
+use Rattle.limits.proofs.Accepted.{accepted-cause, lamella-within}
 use Rattle.layers.specs.Fits.{BoardFits, CladdingFits, LayersFit}
 
 board-fits : (b : Board) → badBoard b ≡ false → BoardFits b
@@ -27,6 +27,5 @@ cladding-fits (Two outer inner) e =
 
 pub layers-fit : (p : Panel) → panelRefusal p ≡ 0 → LayersFit p
 layers-fit p e =
-    let h = none-fits p e .1 .1 .1 .1 in
-    let count = in-range 1 9 (p .count) (h .1 .1 .0) in
-    record { boards = cladding-fits (p .cladding) (h .0); lamellae = lamella-within p e; least = count .0; most = count .1 }
+    let count = in-range 1 9 (p .count) (accepted-cause p e 10) in
+    record { boards = cladding-fits (p .cladding) (accepted-cause p e 8); lamellae = lamella-within p e; least = count .0; most = count .1 }

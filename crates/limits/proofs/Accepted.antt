@@ -1,7 +1,7 @@
 -- What holds of a panel that no line turns back, as inequalities: the limits that later calls work within.
 use Prim.Native.Nat.{ℕ, zero, suc, _+_, _*_, _<_, _≤_}
-use mathlib.Core.Path.{_≡_, sym, _∙_}
-use mathlib.Core.List.{List, [], _∷_}
+use mathlib.Core.Path.{_≡_, sym, ap, _∙_}
+use mathlib.Core.List.{List}
 use mathlib.Core.Bool.{Bool, true, false}
 use native.Mathlib.Omega.{arith}
 use native.Mathlib.Decide.{decLt}
@@ -19,40 +19,23 @@ use Rattle.panel.specs.declared.Panel.{Panel}
 use Rattle.panel.specs.Lamellae.{Lamella, lamella, lamellae, lamellaeOf, thickness}
 use Rattle.panel.specs.Boards.{gapLoss, innerGain}
 use Rattle.section.specs.Tests.{SectionFits, depthPasses}
-use Rattle.limits.specs.Lines.{Line, line, NoneFits}
-use Rattle.limits.specs.Causes.{badBoard, badBoards, badLamella, badLamellae, noneAlong, badCount, some}
-use Rattle.limits.specs.Refusals.{headLines, panelLines, upperLines, panelRefusal, Loaded}
-use Rattle.limits.proofs.FirstLine.{First, accepted-iff, refusal-first}
+use Rattle.limits.specs.declared.ByteFaults.{ByteFaults}
+use Rattle.limits.specs.Lines.{refusal, NoneFits, causeOf}
+use Rattle.limits.specs.Causes.{badLoad, badBoard, badBoards, badCount, badLamella, badLamellae, some}
+use Rattle.limits.specs.Refusals.{noBytes, tableLines, panelLines, panelRefusal}
+use Rattle.limits.proofs.FirstLine.{First, accepted-iff, refusal-first, cause-none}
 use Rattle.limits.proofs.Tests.{some-more}
 
--- Lines that do not fit
-
--- lines 11 and 12
-abbrev pub middleLines : Panel → List Line
-middleLines p = line 11 (badLamellae p) ∷ line 12 (noneAlong p) ∷ []
-
--- what line 5 leaves of the load, and line 10 of the count
-pub loaded-by :
-    (p : Panel) → NoneFits (headLines p) → badCount (p .count) ≡ false → Loaded p
-loaded-by p h e =
-    let load = or-none (outside 1 400 (p .strength)) (ltb 1000000 (p .moment)) (h .1 .1 .0) in
+-- what lines 5, 10 and 11 leave: the section test fits its numbers
+pub section-fits : (p : Panel) → badLoad p ≡ false → badCount (p .count) ≡ false → badLamellae p ≡ false → SectionFits p
+section-fits p five ten eleven =
+    let load = or-none (outside 1 400 (p .strength)) (ltb 1000000 (p .moment)) five in
     record {
       strength = in-range 1 400 (p .strength) (load .0) .1;
       moment = ltb-false 1000000 (p .moment) (load .1);
-      count = in-range 1 9 (p .count) e .1;
-    }
-
-pub loaded : (p : Panel) → NoneFits (upperLines p) → Loaded p
-loaded p h = loaded-by p (h .0, (h .1 .0, (h .1 .1 .0, tt))) (h .1 .1 .1 .1 .1 .1 .0)
-
--- with lines 11 and 12, the section test fits its numbers
-pub section-fits : (p : Panel) → Loaded p → NoneFits (middleLines p) → SectionFits p
-section-fits p l h =
-    record {
-      strength = l .strength;
-      moment = l .moment;
-      count = l .count;
-      thickness = ltb-false 4000 (thickness (lamellae p)) (or-none (some badLamella (lamellae p)) (ltb 4000 (thickness (lamellae p))) (h .0) .1);
+      count = in-range 1 9 (p .count) ten .1;
+      thickness =
+          ltb-false 4000 (thickness (lamellae p)) (or-none (some badLamella (lamellae p)) (ltb 4000 (thickness (lamellae p))) eleven .1);
     }
 
 -- Accepted panels
@@ -66,22 +49,26 @@ pub panel-first : (p : Panel) → (panelRefusal p ≡ 0 → ⊥) → First (pane
 unfolding panelRefusal
 panel-first p ne = refusal-first (panelLines p) ne
 
-pub none-fits : (p : Panel) → panelRefusal p ≡ 0 → NoneFits (panelLines p)
-none-fits p e = panel-accepted-iff p .0 e
-
-pub accepted-loaded : (p : Panel) → panelRefusal p ≡ 0 → Loaded p
-accepted-loaded p e =
-    let h = none-fits p e in
-    loaded-by p (h .0, (h .1 .0, (h .1 .1 .0, tt))) (h .1 .1 .1 .1 .1 .1 .0)
+-- an accepted panel meets no line, whatever its number
+pub accepted-cause : (p : Panel) → panelRefusal p ≡ 0 → (n : ℕ) → causeOf n (panelLines p) ≡ false
+unfolding panelRefusal
+accepted-cause p e = cause-none (panelLines p) tt e
 
 pub accepted-fits : (p : Panel) → panelRefusal p ≡ 0 → SectionFits p
-accepted-fits p e =
-    let h = none-fits p e .1 .1 .1 .1 .1 .1 .1 in
-    section-fits p (accepted-loaded p e) (h .0, (h .1 .0, tt))
+accepted-fits p e = section-fits p (accepted-cause p e 5) (accepted-cause p e 10) (accepted-cause p e 11)
 
 -- an accepted panel passes at depth 0
 pub accepted-passes : (p : Panel) → panelRefusal p ≡ 0 → depthPasses p 0 ≡ true
-accepted-passes p e = not-false (depthPasses p 0) (none-fits p e .1 .1 .1 .1 .1 .1 .1 .1 .1 .0)
+accepted-passes p e = not-false (depthPasses p 0) (accepted-cause p e 13)
+
+-- where the table of a panel in its bytes refuses nothing, the panel alone is accepted
+pub table-accepted : (f : ByteFaults) (p : Panel) → refusal (tableLines f p) ≡ 0 → panelRefusal p ≡ 0
+unfolding panelRefusal
+table-accepted f p e =
+    let none = cause-none (tableLines f p) tt e in
+    let ten = or-none (f .«lamella_count») (badCount (p .count)) (none 10) in
+    let same : noBytes ≡ f = sym (λ i. record { length = none 1 i; version = none 2 i; «board_count» = none 6 i; «lamella_count» = ten .0 i }) in
+    ap (λ (g : ByteFaults). refusal (tableLines g p)) same ∙ e
 
 -- The boards and lamellae of an accepted panel
 
@@ -111,7 +98,7 @@ pub lamella-within :
     (p : Panel) → panelRefusal p ≡ 0 → (i : ℕ) → i < p .count
     → (100 ≤ getD (p .thicknesses) i 0) × (getD (p .thicknesses) i 0 ≤ 600)
 lamella-within p e i h =
-    let bad = or-none (some badLamella (lamellae p)) (ltb 4000 (thickness (lamellae p))) (none-fits p e .1 .1 .1 .1 .1 .1 .1 .0) in
+    let bad = or-none (some badLamella (lamellae p)) (ltb 4000 (thickness (lamellae p))) (accepted-cause p e 11) in
     let x = some-none badLamella (p .directions) (p .thicknesses) (p .count) (bad .0) i h in
     in-range 100 600 (getD (p .thicknesses) i 0)
     (or-none (ltb 1 (getD (p .directions) i 0)) (outside 100 600 (getD (p .thicknesses) i 0)) x .1)
@@ -145,4 +132,4 @@ start-of gap (Two outer inner) e =
 
 -- t_ch of an accepted panel is never cut off at 0
 pub start-whole : (p : Panel) → panelRefusal p ≡ 0 → StartWhole (p .gap) (p .cladding)
-start-whole p e = start-of (p .gap) (p .cladding) (none-fits p e .1 .1 .1 .1 .0)
+start-whole p e = start-of (p .gap) (p .cladding) (accepted-cause p e 8)

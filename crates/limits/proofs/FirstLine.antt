@@ -2,62 +2,44 @@
 use Prim.Native.Nat.{ℕ, zero, suc, _<_}
 use mathlib.Core.Path.{_≡_, refl, sym, ap, _∙_}
 use mathlib.Core.List.{List, [], _∷_, _++_}
-use mathlib.Core.Bool.{Bool, true, false}
+use mathlib.Core.Bool.{Bool, true, false, cond}
 use mathlib.Core.Logic.{_↔_}
 use native.Mathlib.Omega.{arith}
-use lib.Dec.{T, ltb, ltb→lt}
+use lib.Dec.{T, eqb, ltb, ltb→lt}
 use Rattle.numbers.specs.Choice.{pick}
 use Rattle.numbers.proofs.Booleans.{T-left, T-right}
-use Rattle.limits.specs.Lines.{Line, firstOr, refusal, NoneFits, numbered, answer}
+use Rattle.limits.specs.Lines.{Line, refusal, causeOf, NoneFits, numbered, answer}
 
 pick-none : (c : Bool) (n below : ℕ) → T (ltb 0 n) → pick c n below ≡ 0 → (c ≡ false) × (below ≡ 0)
 pick-none true n below t e = absurd (let h : 0 < n = ltb→lt 0 n t in let z : ⊥ = omega arith in z)
 pick-none false n below t e = (refl, e)
 
 -- where nothing is refused, no line fits
-pub first-none : (ls : List Line) → T (numbered ls) → refusal ls ≡ 0 → NoneFits ls
+first-none : (ls : List Line) → T (numbered ls) → refusal ls ≡ 0 → NoneFits ls
 first-none [] t e = tt
 first-none (l ∷ ls) t e =
     let h = pick-none (l .fits) (l .number) (refusal ls) (T-left (ltb 0 (l .number)) (numbered ls) t) e in
     (h .0, first-none ls (T-right (ltb 0 (l .number)) (numbered ls) t) (h .1))
 
--- where no line fits, the lines below decide
-pub none-first : (ls : List Line) → NoneFits ls → (below : ℕ) → firstOr ls below ≡ below
-none-first [] h below = refl
-none-first (l ∷ ls) h below = rw (h .0) (none-first ls (h .1) below)
-
--- a table of which nothing fits has no part that fits
-pub none-left : (xs ys : List Line) → NoneFits (xs ++ ys) → NoneFits xs
-none-left [] ys h = tt
-none-left (x ∷ xs) ys h = (h .0, none-left xs ys (h .1))
+none-first : (ls : List Line) → NoneFits ls → refusal ls ≡ 0
+none-first [] h = refl
+none-first (l ∷ ls) h = rw (h .0) (none-first ls (h .1))
 
 -- a table refuses nothing exactly when no line of it fits
 pub accepted-iff : (ls : List Line) → T (numbered ls) → (refusal ls ≡ 0) ↔ NoneFits ls
-accepted-iff ls t = (first-none ls t, λ h. none-first ls h 0)
+accepted-iff ls t = (first-none ls t, none-first ls)
 
--- where a line fits, the lines below the table do not matter
-pub first-some : (ls : List Line) (below : ℕ) → (refusal ls ≡ 0 → ⊥) → firstOr ls below ≡ refusal ls
-first-some [] below ne = absurd (ne refl)
-first-some (l ∷ ls) below ne = go (l .fits) (first-some ls below) ne
+none-cause : (n : ℕ) (ls : List Line) → NoneFits ls → causeOf n ls ≡ false
+none-cause n [] h = refl
+none-cause n (l ∷ ls) h = go (eqb (l .number) n) (none-cause n ls (h .1))
   where
-    go :
-        (c : Bool)
-        → ((refusal ls ≡ 0 → ⊥) → firstOr ls below ≡ refusal ls)
-        → (pick c (l .number) (refusal ls) ≡ 0 → ⊥)
-        → pick c (l .number) (firstOr ls below) ≡ pick c (l .number) (refusal ls)
-    go true rest k = refl
-    go false rest k = rest k
+    go : (c : Bool) → causeOf n ls ≡ false → cond c (l .fits) (causeOf n ls) ≡ false
+    go true rest = h .0
+    go false rest = rest
 
--- A table worked out in two steps: n is the refusal of the upper lines, and the lower ones are worked out where it is 0
-
-pub said : (ls : List Line) (below n : ℕ) → n ≡ refusal ls → (n ≡ 0 → ⊥) → n ≡ firstOr ls below
-said ls below n e ne = e ∙ sym (first-some ls below (λ z. ne (e ∙ z)))
-
-pub clear : (ls : List Line) → T (numbered ls) → (n : ℕ) → n ≡ refusal ls → n ≡ 0 → NoneFits ls
-clear ls t n e z = first-none ls t (sym e ∙ z)
-
-pub unsaid : (ls : List Line) → T (numbered ls) → (below n m : ℕ) → n ≡ refusal ls → n ≡ 0 → m ≡ below → m ≡ firstOr ls below
-unsaid ls t below n m e z e′ = e′ ∙ sym (none-first ls (clear ls t n e z) below)
+-- where nothing is refused, the line of any number does not fit
+pub cause-none : (ls : List Line) → T (numbered ls) → refusal ls ≡ 0 → (n : ℕ) → causeOf n ls ≡ false
+cause-none ls t e n = none-cause n ls (first-none ls t e)
 
 -- a refusal is a line of the table that fits, and none before it does
 pub record First (ls : List Line) (n : ℕ) : Type 0 where
@@ -94,9 +76,9 @@ refusal-first (l ∷ ls) ne = go (l .fits) refl (refusal-first ls) ne
 
 -- A table, then the lines of a call: any table, and any further lines
 
-above : (table further : List Line) → (refusal table ≡ 0 → ⊥) → refusal (table ++ further) ≡ refusal table
-above [] further ne = absurd (ne refl)
-above (l ∷ ls) further ne = go (l .fits) (above ls further) ne
+fits-above : (table further : List Line) → (refusal table ≡ 0 → ⊥) → refusal (table ++ further) ≡ refusal table
+fits-above [] further ne = absurd (ne refl)
+fits-above (l ∷ ls) further ne = go (l .fits) (fits-above ls further) ne
   where
     go :
         (c : Bool)
@@ -106,18 +88,18 @@ above (l ∷ ls) further ne = go (l .fits) (above ls further) ne
     go true rest k = refl
     go false rest k = rest k
 
-past : (table further : List Line) → NoneFits table → refusal (table ++ further) ≡ refusal further
-past [] further h = refl
-past (l ∷ ls) further h = rw (h .0) (past ls further (h .1))
+none-above : (table further : List Line) → NoneFits table → refusal (table ++ further) ≡ refusal further
+none-above [] further h = refl
+none-above (l ∷ ls) further h = rw (h .0) (none-above ls further (h .1))
 
 -- turned back above: where a line of the table fits, that is the refusal
 pub turned-above : (table further : List Line) {n : ℕ} → n ≡ refusal table → (n ≡ 0 → ⊥) → n ≡ refusal (table ++ further)
-turned-above table further e ne = e ∙ sym (above table further (λ z. ne (e ∙ z)))
+turned-above table further e ne = e ∙ sym (fits-above table further (λ z. ne (e ∙ z)))
 
 -- open above: where none fits, the further lines decide
 pub open-above :
     (table further : List Line) → T (numbered table) → {n m : ℕ} → n ≡ refusal table → n ≡ 0 → m ≡ refusal further → m ≡ refusal (table ++ further)
-open-above table further t e z e′ = e′ ∙ sym (past table further (first-none table t (sym e ∙ z)))
+open-above table further t e z e′ = e′ ∙ sym (none-above table further (first-none table t (sym e ∙ z)))
 
 -- open in both: where nothing is refused, neither the table nor the further lines refuse
 pub open-both :

@@ -1,9 +1,9 @@
 -- Document 01, "Where a record is turned back": a table of lines, "Checked from top to bottom".
 use Prim.Native.Nat.{ℕ, zero, suc}
 use mathlib.Core.List.{List, [], _∷_}
-use mathlib.Core.Bool.{Bool, true, false, _&&_}
+use mathlib.Core.Bool.{Bool, true, false, cond, _&&_}
 use mathlib.Core.Path.{_≡_}
-use lib.Dec.{ltb}
+use lib.Dec.{eqb, ltb}
 use Rattle.numbers.specs.Choice.{pick}
 
 -- a line of the table: its number, and whether its cause fits
@@ -14,14 +14,24 @@ pub record Line : Type 0 where
 abbrev pub line : ℕ → Bool → Line
 line n cause = record { number = n; fits = cause }
 
--- the number of the first line that fits; below the last line, `below`
-abbrev pub firstOr : List Line → ℕ → ℕ
-firstOr [] below = below
-firstOr (l ∷ ls) below = pick (l .fits) (l .number) (firstOr ls below)
-
 -- the refusal: the number of the first line that fits, 0 where none does
 abbrev pub refusal : List Line → ℕ
-refusal ls = firstOr ls 0
+refusal [] = 0
+refusal (l ∷ ls) = pick (l .fits) (l .number) (refusal ls)
+
+-- whether the line of that number fits; false where the table has none
+abbrev pub causeOf : ℕ → List Line → Bool
+causeOf n [] = false
+causeOf n (l ∷ ls) = cond (eqb (l .number) n) (l .fits) (causeOf n ls)
+
+-- a table's lines down to the one of that number, and those below it
+abbrev pub downTo : ℕ → List Line → List Line
+downTo n [] = []
+downTo n (l ∷ ls) = l ∷ cond (eqb (l .number) n) [] (downTo n ls)
+
+abbrev pub below : ℕ → List Line → List Line
+below n [] = []
+below n (l ∷ ls) = cond (eqb (l .number) n) ls (below n ls)
 
 -- no line of the table fits
 abbrev pub NoneFits : List Line → Type 0

@@ -1,9 +1,9 @@
 // The open calls of this crate: they ask nothing of their caller.
 use crate::BuildAnswer;
+use crate::ByteFaults;
 use crate::SectionAnswer;
 use crate::builds::is_same_build;
-use crate::groups::lamella_refusal;
-use crate::groups::upper_refusal;
+use crate::table::table_refusal;
 use panel::Panel;
 use section::test::section_at;
 use section::test::section_passes;
@@ -15,11 +15,13 @@ ghost use Rattle.limits.specs.Answers.{sectionAnswer, buildAnswer, sameI
 pub fn panel_refusal(p: Panel) -> u8
     ensures { λ r. ⌜ r ≡ panelRefusal p ⌝ }
 {
-    let n = upper_refusal(p);
-    if n != 0 {
-        return n;
-    }
-    lamella_refusal(p)
+    let none = ByteFaults {
+        length: false,
+        version: false,
+        board_count: false,
+        lamella_count: false,
+    };
+    table_refusal(none, p)
 }
 
 // The section at a depth in tenths of mm, and whether the depth passes.

@@ -7,11 +7,13 @@ use panel::boards::charring_start;
 use panel::boards::is_f;
 use panel::boards::is_known;
 use panel::boards::type_f;
+use section::test::depth_passes;
 ghost use mathlib.Core.Path.{_≡_};
 ghost use mathlib.Core.List.{List};
 ghost use Prim.Native.Nat.{ℕ, _≤_};
 ghost use Rattle.panel.specs.Lamellae.{lamella, lamellaeOf, along, thickness};
-ghost use Rattle.limits.specs.Causes.{badBondOrGap, badRate, badLoad, badTypes, badBoard, badBoards, badFailureTime, badCount, badLamella, some};
+ghost use Rattle.section.specs.Tests.{SectionFits};
+ghost use Rattle.limits.specs.Causes.{badBondOrGap, badRate, badLoad, badTypes, badBoard, badBoards, badFailureTime, badCount, badLamella, badLamellae, noneAlong, badSection, some};
 
 pub(crate) fn bad_bond_or_gap(p: Panel) -> bool
     ensures { λ r. ⌜ r ≡ badBondOrGap p ⌝ }
@@ -74,7 +76,7 @@ pub(crate) fn bad_failure_time(p: Panel) -> bool
     (f & is_outside(charring_start(p.gap, c), 360000, given)) | (!f & !(given == 0))
 }
 
-pub fn bad_count(count: usize) -> bool
+pub(crate) fn bad_count(count: usize) -> bool
     ensures { λ r. ⌜ r ≡ badCount count ⌝ }
 {
     (count < 1) | (9 < count)
@@ -87,7 +89,7 @@ fn bad_lamella(direction: u8, thickness: u16) -> bool
 }
 
 // No open call: the count must be at most 9.
-pub(crate) fn some_bad_lamella(directions: [u8; 9], thicknesses: [u16; 9], count: usize) -> bool
+fn some_bad_lamella(directions: [u8; 9], thicknesses: [u16; 9], count: usize) -> bool
     requires { ⌜ count ≤ 9 ⌝ }
     ensures { λ r. ⌜ r ≡ some badLamella (lamellaeOf directions thicknesses count) ⌝ }
 {
@@ -115,7 +117,7 @@ pub fn total_thickness(thicknesses: [u16; 9], count: usize) -> u32
 }
 
 // Whether one of the first lamellae is along, whatever their thicknesses. No open call: the count must be at most 9.
-pub(crate) fn some_along(directions: [u8; 9], count: usize) -> bool
+fn some_along(directions: [u8; 9], count: usize) -> bool
     requires { ⌜ count ≤ 9 ⌝ }
     ensures { λ r. ⌜ ((ts : List ℕ) → r ≡ some along (lamellaeOf directions ts count)) ⌝ }
 {
@@ -126,4 +128,31 @@ pub(crate) fn some_along(directions: [u8; 9], count: usize) -> bool
         i += 1;
     }
     found
+}
+
+// No open call: the count must be at most 9.
+pub(crate) fn bad_lamellae(p: Panel) -> bool
+    requires { ⌜ p .count ≤ 9 ⌝ }
+    ensures { λ r. ⌜ r ≡ badLamellae p ⌝ }
+{
+    let g = p.directions;
+    let t = p.thicknesses;
+    some_bad_lamella(g, t, p.count) | (4000 < total_thickness(t, p.count))
+}
+
+// No open call: the count must be at most 9.
+pub(crate) fn none_along(p: Panel) -> bool
+    requires { ⌜ p .count ≤ 9 ⌝ }
+    ensures { λ r. ⌜ r ≡ noneAlong p ⌝ }
+{
+    let g = p.directions;
+    !some_along(g, p.count)
+}
+
+// No open call: the section test must fit its numbers.
+pub(crate) fn bad_section(p: Panel) -> bool
+    requires { ⌜ SectionFits p ⌝ }
+    ensures { λ r. ⌜ r ≡ badSection p ⌝ }
+{
+    !depth_passes(p, 0)
 }

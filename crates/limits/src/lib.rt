@@ -1,12 +1,20 @@
-// Where a panel is turned back: lines 3 to 13 of document 01's table, and the open calls that need nothing more than a panel
-// that keeps them. Every later call checks its panel by `calls::panel_refusal`.
+// Where a record or a panel is turned back: lines 1 to 13 of document 01's table, and the open calls that need nothing more than
+// a panel that keeps them. Every later call checks its panel by `calls::panel_refusal`.
 mod builds;
 pub mod calls;
 pub mod causes;
-pub mod groups;
 pub mod lines;
+pub mod table;
 
 use section::Section;
+
+// What a record's bytes say beside its panel: which of lines 1, 2 and 6 fit, and whether line 10 fits by the record's length.
+pub struct ByteFaults {
+    pub length: bool,
+    pub version: bool,
+    pub board_count: bool,
+    pub lamella_count: bool,
+}
 
 // The section at a depth with whether the depth passes, or the refusal's number.
 pub enum SectionAnswer {

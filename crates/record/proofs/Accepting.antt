@@ -1,6 +1,6 @@
 -- The record of an accepted panel is accepted.
 use Prim.Native.Nat.{ℕ, _+_, _*_, _≤_}
-use mathlib.Core.Path.{_≡_, refl, sym, ap, _∙_}
+use mathlib.Core.Path.{_≡_, sym, ap, ap₂, _∙_}
 use mathlib.Core.Bool.{false, not}
 use native.Mathlib.Omega.{arith}
 use borrow.Author.Tests.{le-ltb, eq-eqb}
@@ -15,15 +15,14 @@ use Rattle.panel.specs.declared.Panel.{Panel}
 use Rattle.panel.specs.Lamellae.{cleared}
 use Rattle.panel.proofs.Used.{cleared-same}
 use Rattle.limits.specs.Lines.{refusal}
-use Rattle.limits.specs.Causes.{badCount}
-use Rattle.limits.specs.Refusals.{panelRefusal}
-use Rattle.limits.proofs.FirstLine.{none-first}
+use Rattle.limits.specs.declared.ByteFaults.{ByteFaults}
+use Rattle.limits.specs.Refusals.{noBytes, tableLines, panelRefusal}
 use Rattle.numbers.proofs.Booleans.{in-range, none-or}
-use Rattle.limits.proofs.Accepted.{none-fits}
+use Rattle.limits.proofs.Accepted.{accepted-cause}
 use Rattle.limits.proofs.Unused.{refusal-unused}
 use Rattle.panel.specs.Boards.{boardsOf}
 use Rattle.record.specs.Layouts.{lamellaCount, recordLength, encode}
-use Rattle.record.specs.Refusals.{badLength, badBoardCount, badLamellaCount, recordLines, recordRefusal}
+use Rattle.record.specs.Refusals.{badLength, badBoardCount, badWhole, byteFaults, recordRefusal}
 use Rattle.record.proofs.Lengths.{length-encode}
 use Rattle.record.proofs.There.{count-there, panel-there}
 
@@ -52,40 +51,21 @@ module _ (p : Panel) (least : 1 ≤ p .count) (most : p .count ≤ 9) where
       none-or (ltb 2 k) (ltb (length (encode p)) (21 + 4 * k)) (le-ltb 2 k (at-most-two (p .cladding)))
       (le-ltb (length (encode p)) (21 + 4 * k) (omega (arith, length-encode p)))
 
-  line-ten : badCount (p .count) ≡ false → badLamellaCount (encode p) ≡ false
+  line-ten : badWhole (encode p) ≡ false
   unfolding encode
-  line-ten e =
+  line-ten =
       let k = length (boardsOf (p .cladding)) in
-      none-or (badCount (lamellaCount (encode p))) (not (eqb (length (encode p)) (18 + 4 * k + 3 * lamellaCount (encode p))))
-      (ap badCount (count-there p) ∙ e)
-      (ap not (eq-eqb (length (encode p)) (18 + 4 * k + 3 * lamellaCount (encode p))
-      (length-encode p ∙ ap (λ (n : ℕ). 18 + 4 * k + 3 * n) (sym (count-there p)))))
+      ap not (eq-eqb (length (encode p)) (18 + 4 * k + 3 * lamellaCount (encode p))
+      (length-encode p ∙ ap (λ (n : ℕ). 18 + 4 * k + 3 * n) (sym (count-there p))))
+
+  faultless : byteFaults (encode p) ≡ noBytes
+  unfolding encode
+  faultless = λ i. record { length = line-one i; version = false; «board_count» = line-six i; «lamella_count» = line-ten i }
 
 pub encode-accepted : (p : Panel) → panelRefusal p ≡ 0 → recordRefusal (encode p) ≡ 0
-unfolding recordRefusal encode
+unfolding recordRefusal panelRefusal
 encode-accepted p e =
-    let q = cleared p in
-    let r = none-fits q (sym (refusal-unused p q (cleared-same p)) ∙ e) in
-    let ten = r .1 .1 .1 .1 .1 .1 in
-    let count = in-range 1 9 (p .count) (ten .0) in
-    ap (λ (x : Panel). refusal (recordLines (encode p) x)) (panel-there p (count .1))
-    ∙ none-first (recordLines (encode p) q) (
-      line-one p (count .0) (count .1),
-      (
-        refl,
-        (
-          r .0,
-          (
-            r .1 .0,
-            (
-              r .1 .1 .0,
-              (
-                line-six p (count .0) (count .1),
-                (r .1 .1 .1 .0, (r .1 .1 .1 .1 .0, (r .1 .1 .1 .1 .1 .0, (line-ten p (count .0) (count .1) (ten .0), ten .1)))),
-              ),
-            ),
-          ),
-        ),
-      ),
-    )
-    0
+    let count = in-range 1 9 (p .count) (accepted-cause p e 10) in
+    ap₂ (λ (f : ByteFaults) (q : Panel). refusal (tableLines f q)) (faultless p (count .0) (count .1)) (panel-there p (count .1))
+    ∙ sym (refusal-unused p (cleared p) (cleared-same p))
+    ∙ e

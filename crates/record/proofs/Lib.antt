@@ -2,9 +2,9 @@ pub mod Accepting
 pub mod Arrays
 pub mod Back
 pub mod Lengths
-pub mod RecordLines
 pub mod RoundTrips
 pub mod Sound
 pub mod There
 pub mod Unused
 pub mod Worked
+pub mod Writes

@@ -11,13 +11,13 @@ use Rattle.panel.specs.declared.Panel.{Panel}
 use Rattle.panel.specs.Lamellae.{cleared}
 use Rattle.limits.specs.Refusals.{panelRefusal}
 use Rattle.limits.proofs.FirstLine.{answered}
-use Rattle.limits.proofs.Accepted.{accepted-loaded}
+use Rattle.limits.proofs.Accepted.{accepted-fits}
 use Rattle.record.specs.declared.Writing.the-variants.{Written, Refused}
 use Rattle.record.specs.Layouts.{recordLength, panelOf, encode}
 use Rattle.record.specs.Refusals.{recordRefusal, writeRefusal}
 use Rattle.record.specs.Answers.{decode, reading, blank, writeAnswer, spaceAfter}
 use Rattle.record.proofs.Lengths.{length-encode}
-use Rattle.record.proofs.RecordLines.{write-taken, write-accepted}
+use Rattle.record.proofs.Writes.{write-taken, write-accepted}
 use Rattle.record.proofs.Sound.{accepted-sound, record-panel}
 use Rattle.record.proofs.There.{panel-there}
 use Rattle.record.proofs.Accepting.{encode-accepted}
@@ -28,7 +28,7 @@ pub decode-encode : (p : Panel) → panelRefusal p ≡ 0 → decode (encode p) �
 unfolding decode
 decode-encode p e =
     sym (answered (recordRefusal (encode p)) (λ (n : ℕ). reading n blank) (reading 0 (panelOf (encode p))) (encode-accepted p e))
-    ∙ ap (reading 0) (panel-there p (accepted-loaded p e .count))
+    ∙ ap (reading 0) (panel-there p (accepted-fits p e .count))
 
 -- Reading what was written gives the panel with its unused places 0: for every panel and space that the writer takes, reading
 -- the bytes that it says it wrote.

@@ -14,12 +14,13 @@ use Rattle.panel.specs.Lamellae.{Lamella, lamellae, lamellaeOf, nine}
 use Rattle.panel.proofs.Used.{lamellaeOf-nine}
 use Rattle.limits.specs.Lines.{NoneFits}
 use Rattle.limits.specs.Causes.{badCount}
-use Rattle.limits.specs.Refusals.{panelLines, panelRefusal}
-use Rattle.limits.proofs.FirstLine.{First, accepted-iff, refusal-first, none-first}
+use Rattle.limits.specs.Refusals.{panelRefusal}
+use Rattle.limits.proofs.FirstLine.{First, accepted-iff, refusal-first, cause-none}
+use Rattle.limits.proofs.Accepted.{table-accepted}
 use Rattle.numbers.proofs.Booleans.{or-none, in-range}
 use Rattle.panel.specs.Boards.{boardsOf}
 use Rattle.record.specs.Layouts.{boardCount, lamellaCount, lamellaPart, claddingAt, lamellaeIn, panelOf}
-use Rattle.record.specs.Refusals.{recordLines, recordRefusal}
+use Rattle.record.specs.Refusals.{badWhole, byteFaults, recordLines, recordRefusal}
 use Rattle.record.proofs.Arrays.{length-lamellaeIn}
 
 -- the bytes of an accepted record
@@ -31,41 +32,35 @@ pub record Sound (b : List ℕ) : Type 0 where
   pub whole : lib.ListN.length b ≡ 18 + 4 * boardCount b + 3 * lamellaCount b
 
 -- a record is accepted exactly when no line about it fits, and a refusal is the first line that does
-pub record-accepted-iff : (b : List ℕ) → (recordRefusal b ≡ 0) ↔ NoneFits (recordLines b (panelOf b))
+pub record-accepted-iff : (b : List ℕ) → (recordRefusal b ≡ 0) ↔ NoneFits (recordLines b)
 unfolding recordRefusal
-record-accepted-iff b = accepted-iff (recordLines b (panelOf b)) tt
+record-accepted-iff b = accepted-iff (recordLines b) tt
 
-pub record-first : (b : List ℕ) → (recordRefusal b ≡ 0 → ⊥) → First (recordLines b (panelOf b)) (recordRefusal b)
+pub record-first : (b : List ℕ) → (recordRefusal b ≡ 0 → ⊥) → First (recordLines b) (recordRefusal b)
 unfolding recordRefusal
-record-first b ne = refusal-first (recordLines b (panelOf b)) ne
-
-pub accepted-lines : (b : List ℕ) → recordRefusal b ≡ 0 → NoneFits (recordLines b (panelOf b))
-accepted-lines b e = record-accepted-iff b .0 e
+record-first b ne = refusal-first (recordLines b) ne
 
 -- an input longer than any record meets line 1, whatever it says of its length
 pub too-long : (b : List ℕ) → 53 < length b → recordRefusal b ≡ 1
 unfolding recordRefusal
 too-long b h = rw (le-ltb (length b) 21 (omega arith), lt-ltb 53 (length b) h) refl
 
+-- an accepted record meets no line, so that its bytes are sound
 pub accepted-sound : (b : List ℕ) → recordRefusal b ≡ 0 → Sound b
+unfolding recordRefusal panelOf
 accepted-sound b e =
-    let h = accepted-lines b e in
-    let one = or-none (outside 21 53 (length b)) (not (eqb (number b 0 2) (length b))) (h .0) in
-    let six =
-    or-none (ltb 2 (boardCount b)) (ltb (length b) (21 + 4 * boardCount b)) (h .1 .1 .1 .1 .1 .0)
-    in
-    let ten =
-    or-none (badCount (lamellaCount b)) (not (eqb (length b) (18 + 4 * boardCount b + 3 * lamellaCount b)))
-    (h .1 .1 .1 .1 .1 .1 .1 .1 .1 .0)
-    in
+    let none = cause-none (recordLines b) tt e in
+    let one = or-none (outside 21 53 (length b)) (not (eqb (number b 0 2) (length b))) (none 1) in
+    let six = or-none (ltb 2 (boardCount b)) (ltb (length b) (21 + 4 * boardCount b)) (none 6) in
+    let ten = or-none (badWhole b) (badCount (lamellaCount b)) (none 10) in
     record {
       length = eqb-true (number b 0 2) (length b) (not-false (eqb (number b 0 2) (length b)) (one .1));
-      version = eqb-true (number b 2 1) 1 (not-false (eqb (number b 2 1) 1) (h .1 .0));
+      version = eqb-true (number b 2 1) 1 (not-false (eqb (number b 2 1) 1) (none 2));
       boards = ltb-false 2 (boardCount b) (six .0);
-      count = in-range 1 9 (lamellaCount b) (ten .0) .1;
+      count = in-range 1 9 (lamellaCount b) (ten .1) .1;
       whole =
           eqb-true (length b) (18 + 4 * boardCount b + 3 * lamellaCount b)
-          (not-false (eqb (length b) (18 + 4 * boardCount b + 3 * lamellaCount b)) (ten .1));
+          (not-false (eqb (length b) (18 + 4 * boardCount b + 3 * lamellaCount b)) (ten .0));
     }
 
 -- the panel of a record with at most two boards has as many boards as the record says
@@ -90,14 +85,5 @@ record-lamellae b h =
 
 -- the panel of an accepted record is accepted
 pub record-panel : (b : List ℕ) → recordRefusal b ≡ 0 → panelRefusal (panelOf b) ≡ 0
-unfolding panelRefusal panelOf
-record-panel b e =
-    let h = accepted-lines b e in
-    let head = h .1 .1 in
-    let boards = h .1 .1 .1 .1 .1 .1 in
-    let lamella = h .1 .1 .1 .1 .1 .1 .1 .1 .1 .1 in
-    let ten = or-none (badCount (lamellaCount b)) (not (eqb (length b) (18 + 4 * boardCount b + 3 * lamellaCount b)))
-    (h .1 .1 .1 .1 .1 .1 .1 .1 .1 .0) in
-    none-first (panelLines (panelOf b))
-    (head .0, (head .1 .0, (head .1 .1 .0, (boards .0, (boards .1 .0, (boards .1 .1 .0, (ten .0, lamella)))))))
-    0
+unfolding recordRefusal
+record-panel b e = table-accepted (byteFaults b) (panelOf b) e

@@ -1,10 +1,14 @@
 -- Unused places do not matter to the writer: panels that differ at most there get the same answer and leave the same bytes.
 use Prim.Native.Nat.{ℕ}
-use mathlib.Core.Path.{_≡_, refl}
-use mathlib.Core.List.{List}
+use mathlib.Core.Path.{_≡_, refl, ap₂}
+use mathlib.Core.List.{List, [], _∷_, _++_}
+use lib.ListN.{length}
+use lib.Dec.{ltb}
 use Rattle.panel.specs.declared.Panel.{Panel}
 use Rattle.panel.specs.Lamellae.{SameUsed}
 use Rattle.panel.proofs.Used.{same-lamellae}
+use Rattle.limits.specs.Lines.{Line, line, refusal}
+use Rattle.limits.proofs.Unused.{lines-unused}
 use Rattle.record.specs.Layouts.{recordLength, encode}
 use Rattle.record.specs.Refusals.{writeRefusal}
 use Rattle.record.specs.Answers.{writeAnswer, spaceAfter}
@@ -22,9 +26,7 @@ encode-unused p q h =
 write-refusal-unused : (p q : Panel) → SameUsed p q → (space : List ℕ) → writeRefusal p space ≡ writeRefusal q space
 unfolding writeRefusal
 write-refusal-unused p q h space =
-    rw
-    (same-lamellae p q h, h .bond, h .gap, h .rate, h .strength, h .moment, h .failureTime, h .cladding, h .count)
-    refl
+    ap₂ (λ (ls : List Line) (n : ℕ). refusal (ls ++ (line 14 (ltb (length space) n) ∷ []))) (lines-unused p q h) (length-unused p q h)
 
 pub write-unused : (p q : Panel) → SameUsed p q → (space : List ℕ) → writeAnswer p space ≡ writeAnswer q space
 unfolding writeAnswer

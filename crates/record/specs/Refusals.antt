@@ -8,8 +8,8 @@ use Rattle.numbers.specs.Choice.{outside}
 use Rattle.numbers.specs.Bytes.{fields}
 use Rattle.panel.specs.declared.Panel.{Panel}
 use Rattle.limits.specs.Lines.{Line, line, refusal}
-use Rattle.limits.specs.Causes.{badCount}
-use Rattle.limits.specs.Refusals.{headLines, boardLines, lamellaLines, panelLines}
+use Rattle.limits.specs.declared.ByteFaults.{ByteFaults}
+use Rattle.limits.specs.Refusals.{tableLines, panelLines}
 use Rattle.record.specs.Layouts.{frontWidths, boardCount, lamellaCount, panelOf, recordLength}
 
 -- 1, length: "fewer than 21 or more than 53 bytes, or length not the bytes given"
@@ -24,27 +24,21 @@ badVersion b = not (eqb (getD (fields frontWidths b 0) 1 0) 1)
 abbrev pub badBoardCount : List ℕ → Bool
 badBoardCount b = ltb 2 (boardCount b) || ltb (length b) (21 + 4 * boardCount b)
 
--- 10, lamella count: "outside 1 to 9, or length not 18 + 4c + 3n"
-abbrev pub badLamellaCount : List ℕ → Bool
-badLamellaCount b =
-    badCount (lamellaCount b) || not (eqb (length b) (18 + 4 * boardCount b + 3 * lamellaCount b))
+-- 10, lamella count: "or length not 18 + 4c + 3n"
+abbrev pub badWhole : List ℕ → Bool
+badWhole b = not (eqb (length b) (18 + 4 * boardCount b + 3 * lamellaCount b))
 
--- lines 1 to 10 of the bytes b in which the panel p stands, in order
-abbrev pub upperLines : List ℕ → Panel → List Line
-upperLines b p =
-    (line 1 (badLength b) ∷ line 2 (badVersion b) ∷ [])
-    ++ headLines p
-    ++ (line 6 (badBoardCount b) ∷ [])
-    ++ boardLines p
-    ++ (line 10 (badLamellaCount b) ∷ [])
+-- what the bytes b say beside the panel that stands in them
+abbrev pub byteFaults : List ℕ → ByteFaults
+byteFaults b = record { length = badLength b; version = badVersion b; «board_count» = badBoardCount b; «lamella_count» = badWhole b }
 
--- and lines 11 to 13
-abbrev pub recordLines : List ℕ → Panel → List Line
-recordLines b p = upperLines b p ++ lamellaLines p
+-- the whole table
+abbrev pub recordLines : List ℕ → List Line
+recordLines b = tableLines (byteFaults b) (panelOf b)
 
 -- "A record is accepted when no line about the record itself fits": refusal 0
 unfoldable pub recordRefusal : List ℕ → ℕ
-recordRefusal b = refusal (recordLines b (panelOf b))
+recordRefusal b = refusal (recordLines b)
 
 -- 14, lent space: "fewer bytes than the record .. written"
 abbrev pub shortFor : Panel → List ℕ → Bool

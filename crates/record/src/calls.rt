@@ -1,11 +1,12 @@
 // The open calls of this crate: they ask nothing of their caller.
 use crate::Reading;
 use crate::Writing;
-use crate::lines::record_refusal;
+use crate::lines::byte_faults;
 use crate::reader::panel_of;
 use crate::writer::put_record;
 use crate::writer::record_length;
 use limits::calls::panel_refusal;
+use limits::table::table_refusal;
 use panel::Cladding;
 use panel::Panel;
 ghost use mathlib.Core.Path.{_≡_};
@@ -33,7 +34,7 @@ pub fn read(s: &[u8]) -> Reading
     ensures { λ r. ⌜ r ≡ decode (now (s .entry)) ⌝ }
 {
     let p = panel_of(s);
-    let n = record_refusal(s, p);
+    let n = table_refusal(byte_faults(s), p);
     if n != 0 {
         return Reading {
             refusal: n,

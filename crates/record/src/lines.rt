@@ -1,18 +1,11 @@
-// The lines about a record's bytes, and all lines of a record in order.
+// The lines about a record's bytes.
 use crate::reader::board_count;
 use crate::reader::lamella_count;
-use limits::causes::bad_count;
-use limits::groups::boards_or;
-use limits::groups::head_or;
-use limits::groups::lamella_refusal;
-use limits::lines::line_or;
+use limits::ByteFaults;
 use numbers::bytes::get8;
 use numbers::bytes::get16;
-use panel::Panel;
 ghost use mathlib.Core.Path.{_≡_};
-ghost use Rattle.limits.specs.Lines.{refusal};
-ghost use Rattle.record.specs.Layouts.{lamellaCount};
-ghost use Rattle.record.specs.Refusals.{badLength, badVersion, badBoardCount, badLamellaCount, upperLines, recordLines};
+ghost use Rattle.record.specs.Refusals.{badLength, badVersion, badBoardCount, badWhole, byteFaults};
 
 fn bad_length(s: &[u8]) -> bool
     ensures { λ r. ⌜ r ≡ badLength (now (s .entry)) ⌝ }
@@ -34,39 +27,22 @@ fn bad_board_count(s: &[u8]) -> bool
     (2 < c) | (s.len() < 21 + 4 * c)
 }
 
-fn bad_lamella_count(s: &[u8]) -> bool
-    ensures { λ r. ⌜ r ≡ badLamellaCount (now (s .entry)) ⌝ }
+fn bad_whole(s: &[u8]) -> bool
+    ensures { λ r. ⌜ r ≡ badWhole (now (s .entry)) ⌝ }
 {
     let c = board_count(s);
     let n = lamella_count(s);
-    bad_count(n) | !(s.len() == 18 + 4 * c + 3 * n)
+    !(s.len() == 18 + 4 * c + 3 * n)
 }
 
-// Lines 1 to 10.
-fn upper_refusal(s: &[u8], p: Panel) -> u8
-    ensures { λ r. ⌜ r ≡ refusal (upperLines (now (s .entry)) p) ⌝ }
+// What the bytes say beside the panel that stands in them.
+pub(crate) fn byte_faults(s: &[u8]) -> ByteFaults
+    ensures { λ r. ⌜ r ≡ byteFaults (now (s .entry)) ⌝ }
 {
-    let lower = line_or(
-        6,
-        bad_board_count(s),
-        boards_or(p, line_or(10, bad_lamella_count(s), 0)),
-    );
-    line_or(
-        1,
-        bad_length(s),
-        line_or(2, bad_version(s), head_or(p, lower)),
-    )
-}
-
-// Lines 1 to 13 of a record in which p stands: the number of the first that fits, or 0. No open call: p's count must be the
-// record's.
-pub(crate) fn record_refusal(s: &[u8], p: Panel) -> u8
-    requires { ⌜ p .count ≡ lamellaCount (now s) ⌝ }
-    ensures { λ r. ⌜ r ≡ refusal (recordLines (now (s .entry)) p) ⌝ }
-{
-    let n = upper_refusal(s, p);
-    if n != 0 {
-        return n;
+    ByteFaults {
+        length: bad_length(s),
+        version: bad_version(s),
+        board_count: bad_board_count(s),
+        lamella_count: bad_whole(s),
     }
-    lamella_refusal(p)
 }

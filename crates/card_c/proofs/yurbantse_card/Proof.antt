@@ -17,7 +17,7 @@ number-of-requires c κs =
     let s = c .before .before .before .before .before .before .args in
     let p = panelOf (now (s .bytes)) in
     subst Short (sym (c .before .before .card .ensures .0))
-    (short-text (recordLines (now (s .bytes)) p) (cardText p) (now (s .out)) (card-length p))
+    (short-text (recordLines (now (s .bytes))) (cardText p) (now (s .out)) (card-length p))
 
 returns : tie.Need-returns
 returns c =

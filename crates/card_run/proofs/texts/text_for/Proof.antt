@@ -22,7 +22,7 @@ returns c =
     let b = now (s .bytes) in
     let p = panelOf b in
     let k = c .before .k .given in
-    let h = text-stands (recordLines b p) (cardText p) (now (s .out)) tt (k .0 .0) (sym (r .card .ensures .0) ∙ k .1) in
+    let h = text-stands (recordLines b) (cardText p) (now (s .out)) tt (k .0 .0) (sym (r .card .ensures .0) ∙ k .1) in
     let t = ap (take (k .0 .0)) (r .card .ensures .1) ∙ h .1 .1 in
     (stands-counts (cardText p) (r .card .last .1 .0) (k .0 .0) (h .1 .0) t, t ∙ printed-card b (h .0))
 
@@ -36,7 +36,7 @@ returns-2 c =
     let b = now (s .args .bytes) in
     let p = panelOf b in
     let m = n .n .given in
-    let t = text-turned (recordLines b p) (cardText p) (now (s .args .out)) tt (le-trans (card-length p) (s .pre)) (m .0 .0)
+    let t = text-turned (recordLines b) (cardText p) (now (s .args .out)) tt (le-trans (card-length p) (s .pre)) (m .0 .0)
     (sym (r .card .ensures .0) ∙ m .1) in
     (i .ensures .0, i .ensures .1 ∙ printed-refusal b (m .0 .0) (t .0) (t .1))
 

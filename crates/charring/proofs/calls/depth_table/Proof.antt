@@ -1,7 +1,10 @@
 -- `charring::calls::depth_table` meets its contract: the table is filled where no line and no want of space turns the call
 -- back. Assumes nothing.
 use Rattle.charring.proofs.Accepted.{fire-fits}
-use Rattle.charring.proofs.Replies.{table-refused, table-short, table-turned, table-filled}
+use Rattle.charring.proofs.Replies.{short, table-short, table-turned, table-filled}
+use Rattle.charring.specs.Answers.{tableRefusal}
+use Rattle.limits.proofs.FirstLine.{turned-above}
+use Rattle.limits.specs.Refusals.{panelLines, panelRefusal}
 use borrow.Author.Needs.{needs}
 use borrow.Author.Tests.{eqb-false}
 use denote.Ref.{now}
@@ -10,10 +13,12 @@ use Rattle.charring.proofs.calls.depth_table.Statement.{statement}
 use Rattle.charring.proofs.calls.depth_table.Tie as tie
 
 returns : tie.Need-returns
+unfolding tableRefusal panelRefusal
 returns c =
     let a = c .before .before .before .args in
     let r = c .before .panel-refusal in
-    table-turned (a .p) (now (a .out)) (r .result) (table-refused (a .p) (now (a .out)) (r .result) (r .ensures) (c .if1 .taken)) (c .if1 .taken)
+    let z = c .if1 .taken in
+    table-turned (a .p) (now (a .out)) (r .result) (turned-above (panelLines (a .p)) (short (now (a .out))) (r .ensures) z) z
 
 returns-2 : tie.Need-returns-2
 returns-2 c =

@@ -31,7 +31,7 @@ returns c =
     let r = c .before .before in
     let a = r .before .before .before .args in
     let b = now (a .bytes) in
-    text-refused (recordLines b (panelOf b)) (cardText (panelOf b)) (now (a .out))
+    text-refused (recordLines b) (cardText (panelOf b)) (now (a .out))
     (ap (λ (x : Reading). x .refusal) (r .read .ensures) ∙ read-refusal b) (c .if1 .taken)
 
 put-card-requires : tie.Need-put-card-requires
@@ -56,7 +56,7 @@ returns-2 c =
     let space = now (a .out) in
     let h = none-read b (r .read .result) (r .read .ensures) (c6 .before .before .if1 .left) in
     let t = put-text (c6 .put-card .ensures) (card-length (r .read .result .panel)) ∙ ap cardText (h .1) in
-    let o = text-delivered (recordLines b (panelOf b)) (cardText (panelOf b)) space tt (h .0) in (
+    let o = text-delivered (recordLines b) (cardText (panelOf b)) space tt (h .0) in (
       d .ensures .0 ∙ ap (λ (text : List ℕ). textAnswer [] text space) t ∙ o .0,
       d .ensures .1 ∙ ap (λ (text : List ℕ). textAfter [] text space) t ∙ o .1,
     )

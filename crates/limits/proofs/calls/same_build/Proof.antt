@@ -1,6 +1,6 @@
 -- `limits::calls::same_build` meets its contract: the panels are compared where neither is turned back, the first before the second.
 -- Assumes nothing.
-use Rattle.limits.proofs.Accepted.{accepted-loaded}
+use Rattle.limits.proofs.Accepted.{accepted-fits}
 use Rattle.limits.proofs.FirstLine.{turned-back, let-through}
 use Rattle.limits.specs.Answers.{buildAnswer, sameIf}
 use Rattle.limits.specs.declared.BuildAnswer.the-variants.{Refused}
@@ -24,8 +24,8 @@ is-same-build-requires : tie.Need-is-same-build-requires
 is-same-build-requires c κs =
     let first = c .before .before in
     let args = first .before .before .args in (
-      accepted-loaded (args .a) (sym (first .before .panel-refusal .ensures) ∙ first .if1 .left) .count,
-      accepted-loaded (args .b) (sym (c .before .panel-refusal2 .ensures) ∙ c .if2 .left) .count,
+      accepted-fits (args .a) (sym (first .before .panel-refusal .ensures) ∙ first .if1 .left) .count,
+      accepted-fits (args .b) (sym (c .before .panel-refusal2 .ensures) ∙ c .if2 .left) .count,
     )
 
 returns-3 : tie.Need-returns-3

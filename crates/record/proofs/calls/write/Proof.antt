@@ -1,7 +1,10 @@
 -- `record::calls::write` meets its contract: the record is stored where no line and no want of space turns it back.
 -- Assumes nothing.
-use Rattle.limits.proofs.Accepted.{accepted-loaded}
-use Rattle.record.proofs.RecordLines.{write-refused, write-short, answers-refused, answers-written}
+use Rattle.limits.proofs.Accepted.{accepted-fits}
+use Rattle.limits.proofs.FirstLine.{turned-above}
+use Rattle.limits.specs.Refusals.{panelLines, panelRefusal}
+use Rattle.record.proofs.Writes.{short, write-short, answers-refused, answers-written}
+use Rattle.record.specs.Refusals.{writeRefusal}
 use borrow.Author.Needs.{needs}
 use borrow.Author.Tests.{eqb-false}
 use denote.Ref.{now}
@@ -10,15 +13,16 @@ use Rattle.record.proofs.calls.write.Statement.{statement}
 use Rattle.record.proofs.calls.write.Tie as tie
 
 returns : tie.Need-returns
+unfolding writeRefusal panelRefusal
 returns c =
     let a = c .before .before .before .args in
     let r = c .before .panel-refusal in
     let z = c .if1 .taken in
-    answers-refused (a .p) (now (a .out)) (r .result) (write-refused (a .p) (now (a .out)) (r .result) (r .ensures) z) z
+    answers-refused (a .p) (now (a .out)) (r .result) (turned-above (panelLines (a .p)) (short (a .p) (now (a .out))) (r .ensures) z) z
 
 record-length-requires : tie.Need-record-length-requires
 record-length-requires c κs =
-    accepted-loaded (c .before .before .before .args .p) (sym (c .before .panel-refusal .ensures) ∙ c .if1 .left) .count
+    accepted-fits (c .before .before .before .args .p) (sym (c .before .panel-refusal .ensures) ∙ c .if1 .left) .count
 
 returns-2 : tie.Need-returns-2
 returns-2 c =
@@ -34,7 +38,7 @@ put-record-requires c κs =
     let len = c .before .before in
     let taken = len .before in
     let r = taken .before in (
-      accepted-loaded (r .before .before .args .p) (sym (r .panel-refusal .ensures) ∙ taken .if1 .left) .count,
+      accepted-fits (r .before .before .args .p) (sym (r .panel-refusal .ensures) ∙ taken .if1 .left) .count,
       rw (len .record-length .ensures .0) at (c .before .if2 .left),
     )
 

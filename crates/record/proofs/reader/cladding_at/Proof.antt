@@ -1,12 +1,23 @@
 -- `record::reader::cladding_at` meets its contract: each number of boards is one case of `claddingAt`.
 -- Assumes nothing.
+use Prim.Native.Nat.{ℕ, zero, suc}
 use Rattle.panel.specs.declared.Cladding.the-variants.{One, Two}
-use Rattle.record.proofs.RecordLines.{two-boards}
+use Rattle.numbers.specs.Bytes.{fields}
+use Rattle.record.specs.Layouts.{boardWidths, boardFrom, claddingAt}
 use borrow.Author.Needs.{needs}
 use denote.Ref.{now}
-use mathlib.Core.Path.{ap, ap₂, _∙_}
+use mathlib.Core.List.{List}
+use mathlib.Core.Path.{_≡_, refl, ap, ap₂, _∙_}
 use Rattle.record.proofs.reader.cladding_at.Statement.{statement}
 use Rattle.record.proofs.reader.cladding_at.Tie as tie
+
+-- more than one board is read as two
+two-boards :
+    (c : ℕ) (t : List ℕ) → (c ≡ 0 → ⊥) → (c ≡ 1 → ⊥)
+    → Two (boardFrom (fields boardWidths t 14)) (boardFrom (fields boardWidths t 18)) ≡ claddingAt c t
+two-boards zero t ne ne1 = absurd (ne refl)
+two-boards (suc zero) t ne ne1 = absurd (ne1 refl)
+two-boards (suc (suc c)) t ne ne1 = refl
 
 returns : tie.Need-returns
 returns c = rw (c .if1 .taken)
