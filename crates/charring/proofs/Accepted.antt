@@ -12,6 +12,7 @@ use Rattle.panel.specs.declared.Cladding.the-variants.{Unclad, One, Two}
 use Rattle.panel.specs.declared.Panel.{Panel}
 use Rattle.panel.specs.Boards.{gapLoss, innerGain, isF, typeF, charringStart}
 use Rattle.panel.specs.Lamellae.{lamellae, thickness}
+use Rattle.panel.specs.Timber.{rateOf}
 use Rattle.limits.specs.Causes.{badBoard, badBoards, badLamella, some}
 use Rattle.limits.specs.Refusals.{panelRefusal}
 use Rattle.numbers.proofs.Booleans.{or-none, in-range}
@@ -79,5 +80,5 @@ fire-fits p e =
     }
 
 -- and chars
-pub rate-least : (p : Panel) → panelRefusal p ≡ 0 → 50 ≤ p .rate
+pub rate-least : (p : Panel) → panelRefusal p ≡ 0 → 50 ≤ rateOf p
 rate-least p e = in-range 50 100 (p .rate) (accepted-cause p e 4) .0

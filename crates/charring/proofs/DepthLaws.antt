@@ -7,7 +7,8 @@ use native.Mathlib.Decide.{decLe}
 use Rattle.panel.specs.declared.Cladding.{Cladding}
 use Rattle.panel.specs.declared.Cladding.the-variants.{Unclad, One, Two}
 use Rattle.panel.specs.declared.Panel.{Panel}
-use Rattle.charring.specs.Fires.{tenth, startOf, failureOf, rateOf, k2, plainRate, slowRate, backFace}
+use Rattle.panel.specs.Timber.{rateOf}
+use Rattle.charring.specs.Fires.{tenth, startOf, failureOf, k2, plainRate, slowRate, backFace}
 use Rattle.charring.specs.Stages.{way, charred}
 use Rattle.charring.specs.Depths.{underAt, afterAt, charAt, fullAt, effectiveAt, micrometresAt, tenthsAt}
 use Rattle.charring.proofs.Ramps.{Ramp, two-rates, same, times, steady, sum, multiple, lower, since, after, no-less, equal}

@@ -7,8 +7,9 @@ use native.Mathlib.Omega.{arith}
 use native.Mathlib.Decide.{decLt}
 use native.Mathlib.Nat.{mul-comm, mul-pos, mul-le-mul-left, mul-lt-mul-of-pos-left, lt-of-mul-lt-mul-left, lt-of-mul-lt-mul-right, lt-of-lt-of-le}
 use Rattle.panel.specs.declared.Panel.{Panel}
+use Rattle.panel.specs.Timber.{rateOf}
 use Rattle.panel.specs.Lamellae.{lamellae, thickness}
-use Rattle.charring.specs.Fires.{tenth, failureOf, rateOf, plainRate, backFace, depthAtFailure}
+use Rattle.charring.specs.Fires.{tenth, failureOf, plainRate, backFace, depthAtFailure}
 use Rattle.charring.specs.Stages.{Stretch, way, charred, fastPart, settledPart}
 use Rattle.charring.specs.Depths.{underAt, afterAt, charAt, fullAt, effectiveAt, tenthsAt}
 use Rattle.charring.proofs.Rounding.{up-covers}

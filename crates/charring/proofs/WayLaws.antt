@@ -9,9 +9,10 @@ use lib.Dec.{ltb, eqb}
 use borrow.Author.Tests.{ltb-false}
 use Rattle.numbers.specs.Choice.{pick}
 use Rattle.panel.specs.declared.Panel.{Panel}
+use Rattle.panel.specs.Timber.{rateOf}
 use Rattle.panel.specs.Lamellae.{Lamella, lamellae}
 use Rattle.charring.specs.declared.Phase.the-variants.{Fast}
-use Rattle.charring.specs.Fires.{tenth, fastRun, startOf, failureOf, rateOf, plainRate, clad, backFace, depthAtFailure}
+use Rattle.charring.specs.Fires.{tenth, fastRun, startOf, failureOf, plainRate, clad, backFace, depthAtFailure}
 use Rattle.charring.specs.Fires.{firstEnd, linesFrom, bondLines, lineEnd}
 use Rattle.charring.specs.Stages.{Stretch, stretches, way, charred, fastPart, settledPart}
 use Rattle.charring.specs.Phases.{phaseOn}

@@ -10,6 +10,7 @@ use Rattle.panel.specs.declared.Cladding.the-variants.{Unclad, One, Two}
 use Rattle.panel.specs.declared.Panel.{Panel}
 use Rattle.panel.specs.Boards.{typeF, charringStart}
 use Rattle.panel.specs.Lamellae.{Lamella, lamellae, thickness}
+use Rattle.panel.specs.Timber.{rateOf}
 
 -- Units
 
@@ -29,10 +30,6 @@ startOf p = charringStart (p .gap) (p .cladding)
 -- "t_f = t_ch for A and H, the given time for F, 0 unclad."
 unfoldable pub failureOf : Panel → ℕ
 failureOf p = pick (typeF (p .cladding)) (p .«failure_time») (startOf p)
-
--- β
-abbrev pub rateOf : Panel → ℕ
-rateOf p = p .rate
 
 -- "k2 = (10,000 − 18h)/10,000, h the inner or only board", in ten-thousandths; 0 unclad, where it is never used
 unfoldable pub k2 : Cladding → ℕ
@@ -63,12 +60,6 @@ depthAtFailure p = slowRate p * (failureOf p - startOf p)
 
 -- Runs
 
--- where the first run behind boards ends: "With t_f = t_ch this ends at 2·t_f or at 25 mm of char, whichever comes earlier. With
--- t_ch < t_f it ends at 25 mm of char .. An unclad panel starts at β."
-unfoldable pub firstEnd : Panel → ℕ
-firstEnd p =
-    pick (clad (p .cladding)) (pick (eqb (startOf p) (failureOf p)) (min (2 * plainRate p * failureOf p) fastRun) fastRun) 0
-
 -- the bond lines below a depth `top`, from the exposed face; the back face is no line
 unfoldable pub linesFrom : ℕ → List Lamella → List ℕ
 linesFrom top [] = []
@@ -83,3 +74,9 @@ bondLines p = elim (eqb (p .bond) 1) [ true ↦ linesFrom 0 (lamellae p) | false
 unfoldable pub lineEnd : ℕ → List ℕ → ℕ
 lineEnd line [] = line + fastRun
 lineEnd line (next ∷ lines) = min (line + fastRun) next
+
+-- where the first run behind boards ends: "With t_f = t_ch this ends at 2·t_f or at 25 mm of char, whichever comes earlier. With
+-- t_ch < t_f it ends at 25 mm of char .. An unclad panel starts at β."
+unfoldable pub firstEnd : Panel → ℕ
+firstEnd p =
+    pick (clad (p .cladding)) (pick (eqb (startOf p) (failureOf p)) (min (2 * plainRate p * failureOf p) fastRun) fastRun) 0

@@ -10,6 +10,7 @@ use mathlib.Core.Bool.{Bool, true, false, _&&_}
 use lib.Dec.{leb}
 use Rattle.panel.specs.declared.Panel.{Panel}
 use Rattle.panel.specs.Lamellae.{lamellae, thickness}
+use Rattle.panel.specs.Timber.{rateOf}
 use Rattle.charring.specs.declared.Fire.{Fire}
 use Rattle.charring.specs.declared.Place.{Place}
 use Rattle.charring.specs.Fires.{tenth, fastRun, startOf, failureOf, k2, plainRate, slowRate, backFace, depthAtFailure, firstEnd}
@@ -17,7 +18,7 @@ use Rattle.charring.specs.Stages.{Stretch, fastPart, settledPart, way, c
 use Rattle.charring.specs.Depths.{fullAt}
 
 pub record FireFits (p : Panel) : Type 0 where
-  pub rate : p .rate ≤ 100
+  pub rate : rateOf p ≤ 100
   pub start : startOf p ≤ 112000
   pub failure : failureOf p ≤ 360000
   pub order : startOf p ≤ failureOf p

@@ -1,8 +1,8 @@
 // Char depth and effective depth at a whole minute. No open calls: the limits must hold, and the minute must be at most 360.
 use crate::Fire;
 use crate::walk::walk;
-use numbers::natural::beyond;
-use numbers::natural::smaller;
+use numbers::words64::less;
+use numbers::words64::lesser;
 use panel::Panel;
 ghost use mathlib.Core.Path.{_≡_};
 ghost use Prim.Native.Nat.{_+_, _*_, _≤_, min};
@@ -26,10 +26,10 @@ pub(crate) fn char_of(p: Panel, f: Fire, time: u64) -> u64
 {
     let under = twice_run(
         f.slow,
-        smaller(beyond(time, f.start), beyond(f.failure, f.start)),
+        lesser(less(time, f.start), less(f.failure, f.start)),
     );
-    let after = walk(p, f, twice_run(f.plain, beyond(time, f.failure)));
-    smaller(under + after, 2 * f.back)
+    let after = walk(p, f, twice_run(f.plain, less(time, f.failure)));
+    lesser(under + after, 2 * f.back)
 }
 
 // The char depth in micrometres, rounded up, by what is the same at every minute.
@@ -48,8 +48,8 @@ fn effective_of(char: u64, time: u64, full: u64, back: u64) -> u64
     requires { ⌜ (full ≤ 112000) × (back ≤ 400000000000) ⌝ }
     ensures { λ r. ⌜ (r ≡ min (full * char + 140 * tenth * min time full) (2 * full * back)) × (r ≤ 2 * full * back) ⌝ }
 {
-    smaller(
-        full * char + 14000000000 * smaller(time, full),
+    lesser(
+        full * char + 14000000000 * lesser(time, full),
         2 * full * back,
     )
 }

@@ -1,14 +1,15 @@
 // What is the same at every minute, worked out once for a panel.
 use crate::Fire;
 use limits::causes::total_thickness;
-use numbers::natural::beyond;
-use numbers::natural::choose_wide;
-use numbers::natural::larger;
-use numbers::natural::smaller;
-use numbers::natural::wide;
+use numbers::words64::less;
+use numbers::words64::pick;
+use numbers::words64::greater;
+use numbers::words64::lesser;
+use numbers::words64::widen;
 use panel::Board;
 use panel::Cladding;
 use panel::Panel;
+use panel::timber::rate_of;
 use panel::boards::charring_start;
 use panel::boards::type_f;
 ghost use mathlib.Core.Path.{_≡_};
@@ -21,7 +22,7 @@ ghost use Rattle.charring.specs.Fits.{FireFits, FireOf, FireBounds};
 fn k2_behind(b: Board) -> u64
     ensures { λ r. ⌜ (r ≡ 10000 - 18 * b .thickness) × (r ≤ 10000) ⌝ }
 {
-    beyond(10000, 18 * wide(b.thickness))
+    less(10000, 18 * widen(b.thickness))
 }
 
 fn k2_of(c: Cladding) -> u64
@@ -56,7 +57,7 @@ fn failure_of(p: Panel, start: u64) -> u64
     ensures { λ r. ⌜ r ≡ failureOf p ⌝ }
 {
     let c = p.cladding;
-    choose_wide(type_f(c), p.failure_time as u64, start)
+    pick(type_f(c), p.failure_time as u64, start)
 }
 
 fn slow_rate(factor: u64, rate: u64) -> u64
@@ -78,8 +79,8 @@ fn first_end(behind: bool, start: u64, failure: u64, plain: u64) -> u64
     requires { ⌜ (plain ≤ 1000000) × (failure ≤ 360000) ⌝ }
     ensures { λ r. ⌜ r ≡ pick behind (pick (eqb start failure) (min (2 * plain * failure) fastRun) fastRun) 0 ⌝ }
 {
-    let early = smaller(2 * run_of(plain, failure), 25000000000);
-    choose_wide(behind, choose_wide(start == failure, early, 25000000000), 0)
+    let early = lesser(2 * run_of(plain, failure), 25000000000);
+    pick(behind, pick(start == failure, early, 25000000000), 0)
 }
 
 // No open call: the limits of lines 3, 4, 8, 9, 10 and 11 must hold.
@@ -91,16 +92,16 @@ pub fn fire_of(p: Panel) -> Fire
     let thicknesses = p.thicknesses;
     let start = start_of(p);
     let failure = failure_of(p, start);
-    let rate = p.rate as u64;
+    let rate = rate_of(p);
     let slow = slow_rate(k2_of(c), rate);
     Fire {
         start: start,
         failure: failure,
         slow: slow,
         plain: 10000 * rate,
-        depth: run_of(slow, beyond(failure, start)),
+        depth: run_of(slow, less(failure, start)),
         end: first_end(is_clad(c), start, failure, 10000 * rate),
         back: 100000000 * (total_thickness(thicknesses, p.count) as u64),
-        full: larger(20000, start),
+        full: greater(20000, start),
     }
 }

@@ -6,9 +6,9 @@ use crate::depths::twice_run;
 use crate::fires::fire_of;
 use crate::walk::fast_part;
 use crate::walk::settled_part;
-use numbers::natural::beyond;
-use numbers::natural::smaller;
-use numbers::natural::wide;
+use numbers::words64::less;
+use numbers::words64::lesser;
+use numbers::words64::widen;
 use panel::Panel;
 ghost use mathlib.Core.Path.{_≡_};
 ghost use Prim.Native.Nat.{_≤_, _<_};
@@ -23,7 +23,7 @@ fn line_end(line: u64, thicknesses: [u16; 9], at: usize, count: usize) -> u64
 {
     let past = line + 25000000000;
     if at + 1 < count {
-        smaller(past, line + 100000000 * wide(thicknesses[at]))
+        lesser(past, line + 100000000 * widen(thicknesses[at]))
     } else {
         past
     }
@@ -54,7 +54,7 @@ fn phase_on(p: Panel, f: Fire, x: u64) -> Phase
     let mut line: u64 = 0;
     let mut i = 0;
     while i + 1 < p.count {
-        line += 100000000 * wide(thicknesses[i]);
+        line += 100000000 * widen(thicknesses[i]);
         i += 1;
         if (p.bond == 1) & (from <= line) {
             let fast = fast_part(from, end, line);
@@ -86,5 +86,5 @@ pub(crate) fn phase_at(p: Panel, minute: u64) -> Phase
     if time < f.failure {
         return Phase::UnderCladding;
     }
-    phase_on(p, f, twice_run(f.plain, beyond(time, f.failure)))
+    phase_on(p, f, twice_run(f.plain, less(time, f.failure)))
 }

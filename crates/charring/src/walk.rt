@@ -1,10 +1,10 @@
 // The way through the panel from t_f on, from bond line to bond line.
 use crate::Fire;
 use crate::Place;
-use numbers::natural::beyond;
-use numbers::natural::larger;
-use numbers::natural::smaller;
-use numbers::natural::wide;
+use numbers::words64::less;
+use numbers::words64::greater;
+use numbers::words64::lesser;
+use numbers::words64::widen;
 use panel::Panel;
 ghost use mathlib.Core.Path.{_≡_};
 ghost use Prim.Native.Nat.{_+_, _-_, _*_, _≤_, min, max};
@@ -14,20 +14,20 @@ ghost use Rattle.charring.specs.Fits.{FireFits, FireOf, FireBounds, Plac
 pub(crate) fn fast_part(from: u64, end: u64, to: u64) -> u64
     ensures { λ r. ⌜ (r ≡ min end to - from) × (r ≤ to) ⌝ }
 {
-    beyond(smaller(end, to), from)
+    less(lesser(end, to), from)
 }
 
 pub(crate) fn settled_part(from: u64, end: u64, to: u64) -> u64
     ensures { λ r. ⌜ (r ≡ to - max from end) × (r ≤ to) ⌝ }
 {
-    beyond(to, larger(from, end))
+    less(to, greater(from, end))
 }
 
 fn gain_on(left: u64, fast: u64, settled: u64) -> u64
     requires { ⌜ (left ≤ 720000000000) × (settled ≤ 400000000000) ⌝ }
     ensures { λ r. ⌜ (r ≡ 2 * min left fast + min (left - fast) (2 * settled)) × (r + 2 * (left - fast - 2 * settled) ≤ 2 * left) ⌝ }
 {
-    2 * smaller(left, fast) + smaller(beyond(left, fast), 2 * settled)
+    2 * lesser(left, fast) + lesser(less(left, fast), 2 * settled)
 }
 
 // To the end of a stretch.
@@ -41,7 +41,7 @@ fn cross(s: Place, to: u64) -> Place
     Place {
         from: to,
         end: to + 25000000000,
-        left: beyond(beyond(s.left, fast), 2 * settled),
+        left: less(less(s.left, fast), 2 * settled),
         gained: s.gained + gain_on(s.left, fast, settled),
     }
 }
@@ -76,7 +76,7 @@ pub(crate) fn walk(p: Panel, f: Fire, x: u64) -> u64
     let mut line: u64 = 0;
     let mut i = 0;
     while i + 1 < p.count {
-        line += 100000000 * wide(thicknesses[i]);
+        line += 100000000 * widen(thicknesses[i]);
         s = pass(s, line, p.bond == 1);
         i += 1;
     }

@@ -5,6 +5,7 @@ use crate::SectionAnswer;
 use crate::builds::is_same_build;
 use crate::table::table_refusal;
 use panel::Panel;
+use panel::timber::factor_of;
 use section::test::section_at;
 use section::test::section_passes;
 ghost use mathlib.Core.Path.{_≡_};
@@ -33,7 +34,10 @@ pub fn section(p: Panel, depth: u32) -> SectionAnswer
         return SectionAnswer::Refused(n);
     }
     let s = section_at(p, depth);
-    SectionAnswer::At(s, section_passes(p.moment, p.strength, s))
+    SectionAnswer::At(
+        s,
+        section_passes(factor_of(p), p.moment, p.strength, s),
+    )
 }
 
 fn same_if(same: bool) -> BuildAnswer

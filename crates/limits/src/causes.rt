@@ -1,5 +1,5 @@
 // The causes of lines 3 to 13, each a test of a panel or of a part of it.
-use numbers::choice::is_outside;
+use numbers::words32::is_outside;
 use panel::Board;
 use panel::Cladding;
 use panel::Panel;

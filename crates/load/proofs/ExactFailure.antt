@@ -7,9 +7,10 @@ use native.Mathlib.Nat.{le-trans, mul-pos, mul-lt-mul-of-pos-left}
 use lib.Dec.{T, leb, ltb, eqb, leb→le, ltb→lt, eqb→eq}
 use Rattle.numbers.proofs.Booleans.{T-true, T-false, T-left, T-right, not-both}
 use Rattle.panel.specs.declared.Panel.{Panel}
+use Rattle.panel.specs.Timber.{rateOf}
 use Rattle.panel.specs.Lamellae.{lamellae, thickness}
 use Rattle.section.specs.Tests.{depthPasses}
-use Rattle.charring.specs.Fires.{tenth, failureOf, rateOf}
+use Rattle.charring.specs.Fires.{tenth, failureOf}
 use Rattle.charring.specs.Depths.{fullAt, effectiveAt, tenthsAt}
 use Rattle.charring.proofs.DepthLaws.{tenths-later}
 use Rattle.charring.proofs.Rising.{tenths-rise}

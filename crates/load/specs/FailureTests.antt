@@ -4,9 +4,10 @@ use Prim.Native.Nat.{ℕ, suc, _*_}
 use mathlib.Core.Bool.{Bool, not, _&&_}
 use lib.Dec.{leb, ltb, eqb}
 use Rattle.panel.specs.declared.Panel.{Panel}
+use Rattle.panel.specs.Timber.{rateOf}
 use Rattle.panel.specs.Lamellae.{lamellae, thickness}
 use Rattle.section.specs.Tests.{depthPasses}
-use Rattle.charring.specs.Fires.{tenth, failureOf, rateOf}
+use Rattle.charring.specs.Fires.{tenth, failureOf}
 use Rattle.charring.specs.Depths.{fullAt, effectiveAt, tenthsAt}
 use Rattle.load.specs.LoadMinute.{everyFrom}
 

@@ -1,17 +1,11 @@
 // Big-endian numbers in a slice. A place past the end reads as 0, so reading needs no length.
-use crate::choice::lesser;
+use crate::sizes::lesser;
+use crate::words32::widen;
 ghost use mathlib.Core.Path.{_≡_};
 ghost use Prim.Native.Nat.{_+_, _≤_, _<_};
 ghost use lib.ListN.{length, drop};
 ghost use lib.Seq.{sets};
 ghost use Rattle.numbers.specs.Bytes.{number, bytes};
-
-// A byte as a wider number.
-pub fn wide(x: u8) -> u32
-    ensures { λ r. ⌜ (r ≡ x) × (r < 256) ⌝ }
-{
-    x as u32
-}
 
 pub fn get8(s: &[u8], at: usize) -> u8
     ensures { λ r. ⌜ r ≡ number (now (s .entry)) at 1 ⌝ }
@@ -24,7 +18,7 @@ pub fn get16(s: &[u8], at: usize) -> u16
     requires { ⌜ at < 65536 ⌝ }
     ensures { λ r. ⌜ r ≡ number (now (s .entry)) at 2 ⌝ }
 {
-    (wide(get8(s, at)) * 256 + wide(get8(s, at + 1))) as u16
+    (widen(get8(s, at)) * 256 + widen(get8(s, at + 1))) as u16
 }
 
 // No open call, for the same reason.
@@ -32,8 +26,8 @@ pub fn get32(s: &[u8], at: usize) -> u32
     requires { ⌜ at < 65536 ⌝ }
     ensures { λ r. ⌜ r ≡ number (now (s .entry)) at 4 ⌝ }
 {
-    let high = wide(get8(s, at)) * 16777216 + wide(get8(s, at + 1)) * 65536;
-    high + wide(get8(s, at + 2)) * 256 + wide(get8(s, at + 3))
+    let high = widen(get8(s, at)) * 16777216 + widen(get8(s, at + 1)) * 65536;
+    high + widen(get8(s, at + 2)) * 256 + widen(get8(s, at + 3))
 }
 
 // No open call: the two bytes from `at` on must be there.

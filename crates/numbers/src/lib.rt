@@ -1,5 +1,6 @@
 // What every other crate counts with: range tests, differences that stop at 0, and big-endian numbers in bytes.
 // No function here knows of panels.
 pub mod bytes;
-pub mod choice;
-pub mod natural;
+pub mod sizes;
+pub mod words32;
+pub mod words64;

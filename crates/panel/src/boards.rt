@@ -1,8 +1,8 @@
 // What follows from the boards alone: their types, and t_ch, the start of charring.
 use crate::Board;
 use crate::Cladding;
-use numbers::choice::choose;
-use numbers::choice::less;
+use numbers::words32::pick;
+use numbers::words32::less;
 ghost use mathlib.Core.Path.{_≡_};
 ghost use Prim.Native.Nat.{_*_, _<_};
 ghost use Rattle.panel.specs.Boards.{known, isF, typeF, gapLoss, innerGain, charringStart};
@@ -32,7 +32,7 @@ pub fn type_f(c: Cladding) -> bool
 fn gap_loss(gap: u8) -> u32
     ensures { λ r. ⌜ r ≡ gapLoss gap ⌝ }
 {
-    choose(gap == 1, 23000, 14000)
+    pick(gap == 1, 23000, 14000)
 }
 
 fn outer_gain(b: Board) -> u32

@@ -5,8 +5,8 @@ use numbers::bytes::get8;
 use numbers::bytes::get16;
 use numbers::bytes::get32;
 use numbers::bytes::part_from;
-use numbers::bytes::wide;
-use numbers::choice::lesser;
+use numbers::words32::widen;
+use numbers::sizes::lesser;
 use panel::Board;
 use panel::Cladding;
 use panel::Panel;
@@ -19,7 +19,7 @@ ghost use Rattle.record.specs.Layouts.{boardWidths, boardCount, lamellaC
 pub(crate) fn board_count(s: &[u8]) -> usize
     ensures { λ r. ⌜ (r ≡ boardCount (now (s .entry))) × (r < 256) ⌝ }
 {
-    wide(get8(part_from(s, 3), 9)) as usize
+    widen(get8(part_from(s, 3), 9)) as usize
 }
 
 // n, the number of lamellae.
@@ -27,7 +27,7 @@ pub(crate) fn lamella_count(s: &[u8]) -> usize
     ensures { λ r. ⌜ (r ≡ lamellaCount (now (s .entry))) × (r < 256) ⌝ }
 {
     let at = 17 + 4 * board_count(s);
-    wide(get8(s, at)) as usize
+    widen(get8(s, at)) as usize
 }
 
 fn board_at(t: &[u8], at: usize) -> Board

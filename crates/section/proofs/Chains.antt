@@ -4,13 +4,14 @@ use Prim.Native.Nat.{ℕ, _+_, _-_, _*_, _≤_, _<_}
 use mathlib.Core.Path.{_≡_, refl}
 use mathlib.Core.Bool.{Bool, true, false}
 use mathlib.Core.List.{List, [], _∷_}
-use native.Mathlib.Nat.{mul-le-mul, le-trans}
+use native.Mathlib.Nat.{le-trans}
 use native.Mathlib.Omega.{arith}
 use borrow.Author.Tests.{leb-true}
 use Rattle.numbers.proofs.Booleans.{and-right}
 use Rattle.panel.specs.Lamellae.{Lamella, along, thickness}
 use Rattle.section.specs.Sections.{Part, leastRemainder, rest, counts, keepIf, countedFrom, counted, total, lowest, highest, sectionOf}
 use Rattle.section.specs.Tests.{SectionBounds}
+use Rattle.section.proofs.Products.{square-rises, cube-rises}
 
 -- parts that lie one below the other between a top and a bottom, none of them empty
 pub data Chain : ℕ → List Part → ℕ → Type 0 where
@@ -78,18 +79,12 @@ highest-within (none below) = omega arith
 highest-within (more after forward (none below)) = below
 highest-within (more after forward (more after′ forward′ c)) = highest-within (more after′ forward′ c)
 
-squares-rise : (x y : ℕ) → x ≤ y → x * x ≤ y * y
-squares-rise x y h = mul-le-mul h h
-
-cubes-rise : (x y : ℕ) → x ≤ y → x * x * x ≤ y * y * y
-cubes-rise x y h = mul-le-mul (mul-le-mul h h) h
-
 -- the sums of a panel of at most 400.0 mm keep their bounds at every depth
 pub counted-bounds : (depth : ℕ) (ls : List Lamella) → thickness ls ≤ 4000 → SectionBounds (sectionOf (counted depth ls))
 unfolding sectionOf
 counted-bounds depth ls h =
     let c = counted-chain depth 0 4000 ls (omega arith) in
     let n = total-within (λ (x : ℕ). x) (λ x y xy. xy) c in
-    let p = total-within (λ (x : ℕ). x * x) squares-rise c in
-    let q = total-within (λ (x : ℕ). x * x * x) cubes-rise c in
+    let p = total-within (λ (x : ℕ). x * x) square-rises c in
+    let q = total-within (λ (x : ℕ). x * x * x) cube-rises c in
     record { n = omega arith; p = omega arith; q = omega arith; lo = lowest-within c; hi = highest-within c }

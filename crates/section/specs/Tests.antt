@@ -4,12 +4,9 @@ use mathlib.Core.Bool.{Bool, _&&_}
 use lib.Dec.{leb, ltb}
 use Rattle.panel.specs.declared.Panel.{Panel}
 use Rattle.panel.specs.Lamellae.{lamellae}
+use Rattle.panel.specs.Timber.{factorOf}
 use Rattle.section.specs.declared.Section.{Section}
 use Rattle.section.specs.Sections.{counted, sectionOf}
-
--- k_fi of EN 1995-1-2 in twentieths: "23/20 is the 1.15 for glued-laminated timber"
-abbrev pub kfi : ℕ
-kfi = 23
 
 -- "e the greater of P − 2N·lo and 2N·hi − P": 2N times the distance of the outermost fibre from the centroid
 abbrev pub edge : Section → ℕ
@@ -19,10 +16,11 @@ edge s = max (s .p - 2 * s .n * s .lo) (2 * s .n * s .hi - s .p)
 abbrev pub inertia : Section → ℕ
 inertia s = 4 * s .n * s .q - 3 * s .p * s .p
 
--- "The depth passes when N > 0 and 120,000·M·e ≤ 23·f·(4NQ − 3P²)", at the moment M (N·m) and the strength f (tenths of N/mm²)
-unfoldable pub carries : ℕ → ℕ → Section → Bool
-carries moment strength s =
-    ltb 0 (s .n) && leb (120000 * moment * edge s) (kfi * strength * inertia s)
+-- "The depth passes when N > 0 and 120,000·M·e ≤ 23·f·(4NQ − 3P²)", with the factor 23, at the moment M (N·m) and the strength f (tenths
+-- of N/mm²)
+unfoldable pub carries : ℕ → ℕ → ℕ → Section → Bool
+carries factor moment strength s =
+    ltb 0 (s .n) && leb (120000 * moment * edge s) (factor * strength * inertia s)
 
 -- the remaining section of a panel at a depth
 abbrev pub sectionAt : Panel → ℕ → Section
@@ -30,7 +28,7 @@ sectionAt p depth = sectionOf (counted depth (lamellae p))
 
 -- whether a depth passes under a moment, and under the panel's own
 abbrev pub passesUnder : ℕ → Panel → ℕ → Bool
-passesUnder moment p depth = carries moment (p .strength) (sectionAt p depth)
+passesUnder moment p depth = carries (factorOf p) moment (p .strength) (sectionAt p depth)
 
 abbrev pub depthPasses : Panel → ℕ → Bool
 depthPasses p depth = passesUnder (p .moment) p depth

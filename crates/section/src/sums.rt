@@ -1,7 +1,7 @@
 // The sums over the counted parts, lamella by lamella from the exposed face.
 use crate::Section;
-use numbers::natural::larger;
-use numbers::natural::wide;
+use numbers::words64::greater;
+use numbers::words64::widen;
 ghost use mathlib.Core.Path.{_≡_};
 ghost use Prim.Native.Nat.{_+_, _-_, _*_, _≤_, _<_};
 ghost use lib.Dec.{eqb, leb};
@@ -63,8 +63,8 @@ fn with_along(s: Section, depth: u64, top: u64, thick: u16) -> Section
     requires { ⌜ (depth < 4294967296) × (top + thick ≤ 4000) ⌝ }
     ensures { λ r. ⌜ r ≡ withLamella depth top (lamella 1 thick) s ⌝ }
 {
-    let from = larger(depth, top);
-    let to = top + wide(thick);
+    let from = greater(depth, top);
+    let to = top + widen(thick);
     if is_enough(from, to) {
         with_part(s, from, to)
     } else {
@@ -108,7 +108,7 @@ pub(crate) fn section_of(
     while i < count {
         let thick = thicknesses[i];
         s = with_lamella(s, depth as u64, top, directions[i], thick);
-        top += wide(thick);
+        top += widen(thick);
         i += 1;
     }
     s

@@ -1,13 +1,14 @@
 // Whether a depth passes.
 use crate::Section;
 use crate::sums::section_of;
-use numbers::natural::beyond;
-use numbers::natural::larger;
+use numbers::words64::less;
+use numbers::words64::greater;
 use panel::Panel;
+use panel::timber::factor_of;
 ghost use mathlib.Core.Path.{_≡_};
 ghost use Prim.Native.Nat.{_-_, _*_, _≤_, max};
 ghost use lib.Dec.{leb};
-ghost use Rattle.section.specs.Tests.{kfi, carries, depthPasses, sectionAt, SectionFits, SectionBounds};
+ghost use Rattle.section.specs.Tests.{carries, depthPasses, sectionAt, SectionFits, SectionBounds};
 
 // No open call: the panel must keep the limits of lines 5, 10 and 11.
 pub fn section_at(p: Panel, depth: u32) -> Section
@@ -27,7 +28,7 @@ fn edge_of(n: u64, p: u64, lo: u64, hi: u64) -> u64
     requires { ⌜ hi ≤ 4000 ⌝ }
     ensures { λ r. ⌜ (r ≡ max (p - 2 * n * lo) (2 * n * hi - p)) × (r ≤ 32000000) ⌝ }
 {
-    larger(beyond(p, 2 * n * lo), beyond(2 * n * hi, p))
+    greater(less(p, 2 * n * lo), less(2 * n * hi, p))
 }
 
 // 12N times the second moment of area about the centroid.
@@ -37,30 +38,32 @@ fn inertia_of(n: u64, p: u64, q: u64) -> u64
     requires { ⌜ q ≤ 64000000000 ⌝ }
     ensures { λ r. ⌜ (r ≡ 4 * n * q - 3 * p * p) × (r ≤ 1024000000000000) ⌝ }
 {
-    beyond(4 * n * q, 3 * p * p)
+    less(4 * n * q, 3 * p * p)
 }
 
 // Whether the strength is not exceeded at the outermost fibre.
-fn is_within(moment: u32, strength: u16, e: u64, w: u64) -> bool
+fn is_within(factor: u64, moment: u32, strength: u16, e: u64, w: u64) -> bool
+    requires { ⌜ factor ≤ 23 ⌝ }
     requires { ⌜ moment ≤ 1000000 ⌝ }
     requires { ⌜ strength ≤ 400 ⌝ }
     requires { ⌜ e ≤ 32000000 ⌝ }
     requires { ⌜ w ≤ 1024000000000000 ⌝ }
-    ensures { λ r. ⌜ r ≡ leb (120000 * moment * e) (kfi * strength * w) ⌝ }
+    ensures { λ r. ⌜ r ≡ leb (120000 * moment * e) (factor * strength * w) ⌝ }
 {
-    120000 * (moment as u64) * e <= 23 * (strength as u64) * w
+    120000 * (moment as u64) * e <= factor * (strength as u64) * w
 }
 
-// No open call: the moment, the strength and the sums must keep the limits of lines 5 and 11.
-pub fn section_passes(moment: u32, strength: u16, s: Section) -> bool
+// No open call: the factor must be a product's, and the moment, the strength and the sums must keep the limits of lines 5 and 11.
+pub fn section_passes(factor: u64, moment: u32, strength: u16, s: Section) -> bool
+    requires { ⌜ factor ≤ 23 ⌝ }
     requires { ⌜ moment ≤ 1000000 ⌝ }
     requires { ⌜ strength ≤ 400 ⌝ }
     requires { ⌜ SectionBounds s ⌝ }
-    ensures { λ r. ⌜ r ≡ carries moment strength s ⌝ }
+    ensures { λ r. ⌜ r ≡ carries factor moment strength s ⌝ }
 {
     let e = edge_of(s.n, s.p, s.lo, s.hi);
     let w = inertia_of(s.n, s.p, s.q);
-    (0 < s.n) & is_within(moment, strength, e, w)
+    (0 < s.n) & is_within(factor, moment, strength, e, w)
 }
 
 // No open call: the panel must keep the limits of lines 5, 10 and 11.
@@ -68,5 +71,10 @@ pub fn depth_passes(p: Panel, depth: u32) -> bool
     requires { ⌜ SectionFits p ⌝ }
     ensures { λ r. ⌜ r ≡ depthPasses p depth ⌝ }
 {
-    section_passes(p.moment, p.strength, section_at(p, depth))
+    section_passes(
+        factor_of(p),
+        p.moment,
+        p.strength,
+        section_at(p, depth),
+    )
 }

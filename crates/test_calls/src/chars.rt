@@ -7,7 +7,7 @@ use charring::DepthAnswer;
 use charring::Phase;
 use charring::PhaseAnswer;
 use charring::TableAnswer;
-use numbers::choice::lesser;
+use numbers::sizes::lesser;
 use panel::Panel;
 use test_lines::input::after_word;
 use test_lines::input::first_word;

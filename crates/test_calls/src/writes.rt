@@ -1,6 +1,6 @@
 // `write SPACE HEX TEXT`: writes the record's panel into SPACE lent bytes, at most 64. They are the front of 64 bytes filled with 238.
 // Prints the writer's answer, all 64 bytes, and the text. A refused record stands for a blank panel.
-use numbers::choice::lesser;
+use numbers::sizes::lesser;
 use panel::Panel;
 use record::Writing;
 use test_lines::input::after_word;

@@ -2,7 +2,7 @@
 // Each goes into SPACE lent bytes, at most 200. They are the front of 200 bytes, each a full stop. Prints the number of bytes written,
 // or the refusal; whether all bytes past those written (on a refusal all 200) are the same; and the text. The bytes written follow.
 use fire_card::CardAnswer;
-use numbers::choice::lesser;
+use numbers::sizes::lesser;
 use test_lines::input::after_word;
 use test_lines::input::first_word;
 use test_lines::input::hex_bytes;

@@ -17,12 +17,12 @@ returns c =
     let s = m .before .before .before in
     let f = s .args .f in
     let under = u .twice-run .ensures .0 ∙ ap (λ (k : ℕ). 2 * f .slow * k)
-    (m .smaller .ensures .0 ∙ ap₂ (λ (x y : ℕ). min x y) (m .before .before .beyond .ensures .0) (m .before .beyond2 .ensures .0)) in
-    let since = r .twice-run2 .ensures .0 ∙ ap (λ (k : ℕ). 2 * f .plain * k) (b .beyond3 .ensures .0) in
+    (m .lesser .ensures .0 ∙ ap₂ (λ (x y : ℕ). min x y) (m .before .before .less .ensures .0) (m .before .less2 .ensures .0)) in
+    let since = r .twice-run2 .ensures .0 ∙ ap (λ (k : ℕ). 2 * f .plain * k) (b .less3 .ensures .0) in
     let after = w .walk .ensures .0 ∙ ap (λ (k : ℕ). charred (way (s .args .p)) k 1) since in
     record {
-      depth = c .smaller2 .ensures .0 ∙ ap₂ (λ (x y : ℕ). min (x + y) (2 * f .back)) under after;
-      most = omega (arith, c .smaller2 .ensures .1 .1, s .pre .1 .0 .1 .back);
+      depth = c .lesser2 .ensures .0 ∙ ap₂ (λ (x y : ℕ). min (x + y) (2 * f .back)) under after;
+      most = omega (arith, c .lesser2 .ensures .1 .1, s .pre .1 .0 .1 .back);
     }
 
 pub char-of-spec : {M : Type 1} → statement M

@@ -25,31 +25,32 @@ returns c =
     let c4 = c3 .before in
     let c6 = c4 .before .before in
     let c7 = c6 .before in
-    let c9 = c7 .before .before in
+    let c8 = c7 .before in
+    let c9 = c8 .before in
     let c10 = c9 .before in
     let s = c10 .before .before in
     let p = s .args .p in
-    let slow = c6 .slow-rate .ensures .0 ∙ ap (λ (k : ℕ). k * p .rate) (c7 .k2-of .ensures) in
-    let time = c4 .before .beyond .ensures .0 ∙ ap₂ (λ (x y : ℕ). x - y) (c9 .failure-of .ensures) (c10 .start-of .ensures) in
+    let slow = c6 .slow-rate .ensures .0 ∙ ap₂ (λ (k r : ℕ). k * r) (c7 .k2-of .ensures) (c8 .rate-of .ensures .0) in
+    let time = c4 .before .less .ensures .0 ∙ ap₂ (λ (x y : ℕ). x - y) (c9 .failure-of .ensures) (c10 .start-of .ensures) in
     let f : Fire = record {
       start = c10 .start-of .result;
       failure = c9 .failure-of .result;
       slow = c6 .slow-rate .result;
-      plain = 10000 * p .rate;
+      plain = 10000 * c8 .rate-of .result;
       depth = c4 .run-of .result;
       end = c2 .first-end .result;
       back = 100000000 * c .before .total-thickness .result;
-      full = c .larger .result;
+      full = c .greater .result;
     } in
     let o : FireOf p f = record {
       start = c10 .start-of .ensures;
       failure = c9 .failure-of .ensures;
       slow = slow;
-      plain = refl;
+      plain = ap (λ (r : ℕ). 10000 * r) (c8 .rate-of .ensures .0);
       depth = c4 .run-of .ensures .0 ∙ ap₂ (λ (x y : ℕ). x * y) slow time;
-      end = c2 .first-end .ensures ∙ rw (c3 .is-clad .ensures, c9 .failure-of .ensures, c10 .start-of .ensures);
+      end = c2 .first-end .ensures ∙ rw (c3 .is-clad .ensures, c8 .rate-of .ensures .0, c9 .failure-of .ensures, c10 .start-of .ensures);
       back = ap (λ (k : ℕ). 100000000 * k) (c .before .total-thickness .ensures (p .directions));
-      full = c .larger .ensures ∙ ap (λ (k : ℕ). max 20000 k) (c10 .start-of .ensures);
+      full = c .greater .ensures ∙ ap (λ (k : ℕ). max 20000 k) (c10 .start-of .ensures);
     } in
     (o, fire-bounds p f (s .pre) o)
 

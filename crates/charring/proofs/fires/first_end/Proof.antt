@@ -14,10 +14,10 @@ returns c =
     let c2 = c .before .before in
     let a = c2 .before .before .args in
     let run : 2 * c2 .before .run-of .result ≡ 2 * a .plain * a .failure = omega (arith, c2 .before .run-of .ensures .0) in
-    c .choose-wide2 .ensures
+    c .pick2 .ensures
     ∙ ap (λ (k : ℕ). pick (a .behind) k 0)
-    (c .before .choose-wide .ensures
-    ∙ ap (λ (k : ℕ). pick (eqb (a .start) (a .failure)) k fastRun) (c2 .smaller .ensures .0 ∙ ap (λ (k : ℕ). min k fastRun) run))
+    (c .before .pick .ensures
+    ∙ ap (λ (k : ℕ). pick (eqb (a .start) (a .failure)) k fastRun) (c2 .lesser .ensures .0 ∙ ap (λ (k : ℕ). min k fastRun) run))
 
 pub first-end-spec : {M : Type 1} → statement M
 first-end-spec =

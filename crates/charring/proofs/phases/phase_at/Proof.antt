@@ -44,7 +44,7 @@ returns-4 c =
     c .phase-on .ensures
     ∙ is-after (a .p) (f .fire-of .result) (a .minute) (h .char-of .result) (f .fire-of .ensures .0) (h .char-of .ensures)
     (i .if1 .left) (j .if2 .left) (k .if3 .left)
-    (c .before .twice-run .result) (c .before .twice-run .ensures .0 ∙ ap (λ (t : ℕ). 2 * f .fire-of .result .plain * t) (b .beyond .ensures .0))
+    (c .before .twice-run .result) (c .before .twice-run .ensures .0 ∙ ap (λ (t : ℕ). 2 * f .fire-of .result .plain * t) (b .less .ensures .0))
 
 pub phase-at-spec : {M : Type 1} → statement M
 phase-at-spec =

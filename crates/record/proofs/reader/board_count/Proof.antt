@@ -10,7 +10,7 @@ use Rattle.record.proofs.reader.board_count.Tie as tie
 
 returns : tie.Need-returns
 returns c =
-    (c .wide .ensures .0 ∙ c .before .get8 .ensures ∙ ap (λ (t : List ℕ). getD t 9 0) (c .before .before .part-from .ensures), search needs)
+    (c .widen .ensures .0 ∙ c .before .get8 .ensures ∙ ap (λ (t : List ℕ). getD t 9 0) (c .before .before .part-from .ensures), search needs)
 
 pub board-count-spec : {M : Type 1} → statement M
 board-count-spec =

@@ -11,7 +11,7 @@ use Rattle.record.proofs.reader.lamella_count.Tie as tie
 returns : tie.Need-returns
 returns c =
     let s = now (c .before .before .before .before .args .s) in (
-      c .wide .ensures .0 ∙ c .before .get8 .ensures ∙ ap (λ (k : ℕ). getD s (17 + 4 * k) 0)
+      c .widen .ensures .0 ∙ c .before .get8 .ensures ∙ ap (λ (k : ℕ). getD s (17 + 4 * k) 0)
           (c .before .before .board-count .ensures .0),
       search needs,
     )

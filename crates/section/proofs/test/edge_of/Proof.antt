@@ -5,13 +5,13 @@ use Rattle.numbers.proofs.Products.{times}
 use Rattle.section.proofs.test.edge_of.Statement.{statement}
 use Rattle.section.proofs.test.edge_of.Tie as tie
 
-mul-beyond-2 : tie.Need-mul-beyond-2
-mul-beyond-2 c =
+mul-less-2 : tie.Need-mul-less-2
+mul-less-2 c =
     let a = c .args in
     omega (arith, times (a .n) 4000 (a .lo) 4000 (search needs) (search needs))
 
-mul-beyond-4 : tie.Need-mul-beyond-4
-mul-beyond-4 c =
+mul-less-4 : tie.Need-mul-less-4
+mul-less-4 c =
     let a = c .before .args in
     omega (arith, times (a .n) 4000 (a .hi) 4000 (search needs) (search needs))
 
@@ -26,10 +26,10 @@ edge-of-spec =
     tie.close
     (tie.spec
     (λ c. search needs)
-    mul-beyond-2
+    mul-less-2
     (λ c κs. search needs)
     (λ c. search needs)
-    mul-beyond-4
+    mul-less-4
     (λ c κs. search needs)
     (λ c κs. search needs)
     returns)

@@ -5,13 +5,13 @@ use Rattle.numbers.proofs.Products.{times}
 use Rattle.section.proofs.test.inertia_of.Statement.{statement}
 use Rattle.section.proofs.test.inertia_of.Tie as tie
 
-mul-beyond-2 : tie.Need-mul-beyond-2
-mul-beyond-2 c =
+mul-less-2 : tie.Need-mul-less-2
+mul-less-2 c =
     let a = c .args in
     omega (arith, times (a .n) 4000 (a .q) 64000000000 (search needs) (search needs))
 
-mul-beyond-4 : tie.Need-mul-beyond-4
-mul-beyond-4 c =
+mul-less-4 : tie.Need-mul-less-4
+mul-less-4 c =
     let a = c .args in
     omega (arith, times (a .p) 16000000 (a .p) 16000000 (search needs) (search needs))
 
@@ -23,4 +23,4 @@ returns c =
 pub inertia-of-spec : {M : Type 1} → statement M
 inertia-of-spec =
     tie.close
-    (tie.spec (λ c. search needs) mul-beyond-2 (λ c. search needs) mul-beyond-4 (λ c κs. search needs) returns)
+    (tie.spec (λ c. search needs) mul-less-2 (λ c. search needs) mul-less-4 (λ c κs. search needs) returns)

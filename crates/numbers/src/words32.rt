@@ -1,6 +1,6 @@
-// Tests and choices, as functions without branches, so that what a caller computes is the definition itself.
+// Numbers of 32 bits, as functions without branches, so that what a caller computes is the definition itself.
 ghost use mathlib.Core.Path.{_≡_};
-ghost use Prim.Native.Nat.{_-_, _≤_, min};
+ghost use Prim.Native.Nat.{_-_, _<_};
 ghost use Rattle.numbers.specs.Choice.{pick, outside};
 
 pub fn is_outside(least: u32, greatest: u32, x: u32) -> bool
@@ -9,7 +9,7 @@ pub fn is_outside(least: u32, greatest: u32, x: u32) -> bool
     (x < least) | (greatest < x)
 }
 
-pub fn choose(test: bool, x: u32, y: u32) -> u32
+pub fn pick(test: bool, x: u32, y: u32) -> u32
     ensures { λ r. ⌜ r ≡ pick test x y ⌝ }
 {
     if test { x } else { y }
@@ -22,8 +22,9 @@ pub fn less(a: u32, b: u32) -> u32
     if b <= a { a - b } else { 0 }
 }
 
-pub fn lesser(a: usize, b: usize) -> usize
-    ensures { λ r. ⌜ (r ≡ min a b) × (r ≤ a) × (r ≤ b) ⌝ }
+// A byte as a wider number.
+pub fn widen(x: u8) -> u32
+    ensures { λ r. ⌜ (r ≡ x) × (r < 256) ⌝ }
 {
-    if a <= b { a } else { b }
+    x as u32
 }
