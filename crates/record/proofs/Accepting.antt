@@ -58,6 +58,7 @@ module _ (p : Panel) (least : 1 ≤ p .count) (most : p .count ≤ 9) where
       ap not (eq-eqb (length (encode p)) (18 + 4 * k + 3 * lamellaCount (encode p))
       (length-encode p ∙ ap (λ (n : ℕ). 18 + 4 * k + 3 * n) (sym (count-there p))))
 
+  -- so its bytes have no fault
   faultless : byteFaults (encode p) ≡ noBytes
   unfolding encode
   faultless = λ i. record { length = line-one i; version = false; «board_count» = line-six i; «lamella_count» = line-ten i }
