@@ -2,6 +2,7 @@
 -- 11 for a lamella".
 use Prim.Native.Nat.{ℕ}
 use Rattle.numbers.specs.Choice.{pick, outside}
+use Rattle.panel.specs.Ranges.{gypsumThinnest, gypsumThickest, woodThinnest, woodThickest}
 use Rattle.limits.specs.Lines.{answer}
 use Rattle.basic_times.specs.declared.TimeAnswer.{TimeAnswer}
 use Rattle.basic_times.specs.declared.TimeAnswer.the-variants.{Time, Refused}
@@ -11,9 +12,9 @@ abbrev pub bareAnswer : ℕ → ℕ → ℕ → (ℕ → ℕ) → ℕ → TimeAn
 bareAnswer number least greatest time h = answer (pick (outside least greatest h) number 0) Refused (Time (time h))
 
 -- gypsum boards have entries for 9.0 to 25.0 mm
-abbrev pub boardAnswer : (ℕ → ℕ) → ℕ → TimeAnswer
-boardAnswer = bareAnswer 8 90 250
+abbrev pub gypsumAnswer : (ℕ → ℕ) → ℕ → TimeAnswer
+gypsumAnswer = bareAnswer 8 gypsumThinnest gypsumThickest
 
--- lamellae for 10.0 to 60.0 mm
-abbrev pub lamellaAnswer : (ℕ → ℕ) → ℕ → TimeAnswer
-lamellaAnswer = bareAnswer 11 100 600
+-- lamellae, as solid wood, for 10.0 to 60.0 mm
+abbrev pub woodAnswer : (ℕ → ℕ) → ℕ → TimeAnswer
+woodAnswer = bareAnswer 11 woodThinnest woodThickest

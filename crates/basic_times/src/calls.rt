@@ -1,45 +1,45 @@
 // The open calls of this crate: the basic times at a bare thickness in tenths of mm. They ask nothing of their caller.
 use crate::TimeAnswer;
-use crate::gypsum_insulation;
-use crate::gypsum_protection;
-use crate::wood_insulation;
-use crate::wood_protection;
+use panel::ranges::GYPSUM_THICKEST;
+use panel::ranges::GYPSUM_THINNEST;
+use panel::ranges::WOOD_THICKEST;
+use panel::ranges::WOOD_THINNEST;
 ghost use mathlib.Core.Path.{_≡_};
-ghost use Rattle.basic_times.specs.Answers.{boardAnswer, lamellaAnswer};
+ghost use Rattle.basic_times.specs.Answers.{gypsumAnswer, woodAnswer};
 ghost use Rattle.basic_times.specs.Rules.{gypsumProtection, gypsumInsulation, woodProtection, woodInsulation};
 
-pub fn board_protection(h: u16) -> TimeAnswer
-    ensures { λ r. ⌜ r ≡ boardAnswer gypsumProtection h ⌝ }
+pub fn gypsum_protection(h: u16) -> TimeAnswer
+    ensures { λ r. ⌜ r ≡ gypsumAnswer gypsumProtection h ⌝ }
 {
-    if (h < 90) | (250 < h) {
+    if (h < GYPSUM_THINNEST) | (GYPSUM_THICKEST < h) {
         return TimeAnswer::Refused(8);
     }
-    TimeAnswer::Time(gypsum_protection::at(h))
+    TimeAnswer::Time(crate::gypsum_protection::at(h))
 }
 
-pub fn board_insulation(h: u16) -> TimeAnswer
-    ensures { λ r. ⌜ r ≡ boardAnswer gypsumInsulation h ⌝ }
+pub fn gypsum_insulation(h: u16) -> TimeAnswer
+    ensures { λ r. ⌜ r ≡ gypsumAnswer gypsumInsulation h ⌝ }
 {
-    if (h < 90) | (250 < h) {
+    if (h < GYPSUM_THINNEST) | (GYPSUM_THICKEST < h) {
         return TimeAnswer::Refused(8);
     }
-    TimeAnswer::Time(gypsum_insulation::at(h))
+    TimeAnswer::Time(crate::gypsum_insulation::at(h))
 }
 
-pub fn lamella_protection(h: u16) -> TimeAnswer
-    ensures { λ r. ⌜ r ≡ lamellaAnswer woodProtection h ⌝ }
+pub fn wood_protection(h: u16) -> TimeAnswer
+    ensures { λ r. ⌜ r ≡ woodAnswer woodProtection h ⌝ }
 {
-    if (h < 100) | (600 < h) {
+    if (h < WOOD_THINNEST) | (WOOD_THICKEST < h) {
         return TimeAnswer::Refused(11);
     }
-    TimeAnswer::Time(wood_protection::at(h))
+    TimeAnswer::Time(crate::wood_protection::at(h))
 }
 
-pub fn lamella_insulation(h: u16) -> TimeAnswer
-    ensures { λ r. ⌜ r ≡ lamellaAnswer woodInsulation h ⌝ }
+pub fn wood_insulation(h: u16) -> TimeAnswer
+    ensures { λ r. ⌜ r ≡ woodAnswer woodInsulation h ⌝ }
 {
-    if (h < 100) | (600 < h) {
+    if (h < WOOD_THINNEST) | (WOOD_THICKEST < h) {
         return TimeAnswer::Refused(11);
     }
-    TimeAnswer::Time(wood_insulation::at(h))
+    TimeAnswer::Time(crate::wood_insulation::at(h))
 }

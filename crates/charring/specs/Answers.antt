@@ -1,11 +1,12 @@
 -- What the open calls of this crate answer, by document 01's number, and what the depth table leaves in its lent space.
-use Prim.Native.Nat.{ℕ}
+use Prim.Native.Nat.{ℕ, suc}
 use mathlib.Core.List.{List, [], _∷_, _++_}
 use lib.ListN.{length, drop}
 use lib.Dec.{ltb}
 use Rattle.numbers.specs.Firsts.{firsts}
 use Rattle.panel.specs.declared.Panel.{Panel}
 use Rattle.limits.specs.Lines.{line, refusal, answer}
+use Rattle.limits.specs.Causes.{lastMinute, badMinute}
 use Rattle.limits.specs.Refusals.{panelLines}
 use Rattle.charring.specs.declared.PhaseAnswer.{PhaseAnswer}
 use Rattle.charring.specs.declared.PhaseAnswer.the-variants.{At, Refused as RefusedPhase}
@@ -18,7 +19,7 @@ use Rattle.charring.specs.Phases.{phaseAt}
 
 -- lines 3 to 13, then 15: "asked or wanted minute above 360"
 unfoldable pub minuteRefusal : Panel → ℕ → ℕ
-minuteRefusal p minute = refusal (panelLines p ++ (line 15 (ltb 360 minute) ∷ []))
+minuteRefusal p minute = refusal (panelLines p ++ (line 15 (badMinute minute) ∷ []))
 
 -- the phase at a whole minute
 unfoldable pub phaseAnswer : Panel → ℕ → PhaseAnswer
@@ -33,16 +34,19 @@ unfoldable pub effectiveAnswer : Panel → ℕ → DepthAnswer
 effectiveAnswer p minute = answer (minuteRefusal p minute) RefusedDepth (Depth (tenthsAt p minute 1))
 
 -- "The depth table has one 32-bit number for each minute 0 to 360: the depth in micrometres, rounded up."
+abbrev pub tableLength : ℕ
+tableLength = suc lastMinute
+
 unfoldable pub depthTable : Panel → List ℕ
-depthTable p = firsts (λ (minute : ℕ). micrometresAt p minute 1) 361
+depthTable p = firsts (λ (minute : ℕ). micrometresAt p minute 1) tableLength
 
 -- lines 3 to 13, then 14: "fewer than 361 depths"
 unfoldable pub tableRefusal : Panel → List ℕ → ℕ
-tableRefusal p space = refusal (panelLines p ++ (line 14 (ltb (length space) 361) ∷ []))
+tableRefusal p space = refusal (panelLines p ++ (line 14 (ltb (length space) tableLength) ∷ []))
 
 unfoldable pub tableAnswer : Panel → List ℕ → TableAnswer
 tableAnswer p space = answer (tableRefusal p space) RefusedTable Filled
 
 -- "Longer lent space stays unchanged past entry 360."
 unfoldable pub tableAfter : Panel → List ℕ → List ℕ
-tableAfter p space = answer (tableRefusal p space) (λ (n : ℕ). space) (depthTable p ++ drop 361 space)
+tableAfter p space = answer (tableRefusal p space) (λ (n : ℕ). space) (depthTable p ++ drop tableLength space)

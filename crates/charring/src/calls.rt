@@ -9,6 +9,7 @@ use crate::phases::phase_at;
 use crate::table::fill;
 use limits::calls::panel_refusal;
 use limits::lines::line_or;
+use limits::LAST_MINUTE;
 use panel::Panel;
 ghost use mathlib.Core.Path.{_≡_};
 ghost use Rattle.charring.specs.Answers.{minuteRefusal, phaseAnswer, charAnswer, effectiveAnswer, tableAnswer, tableAfter};
@@ -21,7 +22,7 @@ pub fn minute_refusal(p: Panel, minute: u16) -> u8
     if n != 0 {
         return n;
     }
-    line_or(15, 360 < minute, 0)
+    line_or(15, LAST_MINUTE < minute, 0)
 }
 
 // The phase at a whole minute.

@@ -6,6 +6,7 @@ use numbers::words64::lesser;
 use panel::Panel;
 ghost use mathlib.Core.Path.{_≡_};
 ghost use Prim.Native.Nat.{_+_, _*_, _≤_, min};
+ghost use Rattle.limits.specs.Causes.{lastMinute};
 ghost use Rattle.charring.specs.Fires.{tenth};
 ghost use Rattle.charring.specs.Depths.{micrometresAt, tenthsAt, roundUp};
 ghost use Rattle.charring.specs.Fits.{FireFits, FireOf, FireBounds, CharOf};
@@ -36,7 +37,7 @@ pub(crate) fn char_of(p: Panel, f: Fire, time: u64) -> u64
 pub fn micrometres_in(p: Panel, f: Fire, minute: u64) -> u32
     requires { ⌜ FireFits p ⌝ }
     requires { ⌜ FireOf p f × FireBounds f ⌝ }
-    requires { ⌜ minute ≤ 360 ⌝ }
+    requires { ⌜ minute ≤ lastMinute ⌝ }
     ensures { λ r. ⌜ r ≡ micrometresAt p minute 1 ⌝ }
 {
     ((char_of(p, f, 1000 * minute) + 1999999) / 2000000) as u32
@@ -68,7 +69,7 @@ fn rounded_up(n: u64, d: u64) -> u32
 pub fn tenths_in(p: Panel, f: Fire, minute: u64) -> u32
     requires { ⌜ FireFits p ⌝ }
     requires { ⌜ FireOf p f × FireBounds f ⌝ }
-    requires { ⌜ minute ≤ 360 ⌝ }
+    requires { ⌜ minute ≤ lastMinute ⌝ }
     ensures { λ r. ⌜ r ≡ tenthsAt p minute 1 ⌝ }
 {
     let n = effective_of(char_of(p, f, 1000 * minute), 1000 * minute, f.full, f.back);

@@ -13,6 +13,7 @@ use panel::Panel;
 ghost use mathlib.Core.Path.{_≡_};
 ghost use Prim.Native.Nat.{_≤_, _<_};
 ghost use lib.Dec.{ltb};
+ghost use Rattle.limits.specs.Causes.{lastMinute};
 ghost use Rattle.charring.specs.Stages.{way};
 ghost use Rattle.charring.specs.Phases.{phaseOn, phaseAt};
 ghost use Rattle.charring.specs.Fits.{FireFits, FireOf, FireBounds, LineEnd, phaseIn};
@@ -72,7 +73,7 @@ fn phase_on(p: Panel, f: Fire, x: u64) -> Phase
 
 pub(crate) fn phase_at(p: Panel, minute: u64) -> Phase
     requires { ⌜ FireFits p ⌝ }
-    requires { ⌜ minute ≤ 360 ⌝ }
+    requires { ⌜ minute ≤ lastMinute ⌝ }
     ensures { λ r. ⌜ r ≡ phaseAt p minute 1 ⌝ }
 {
     let f = fire_of(p);

@@ -11,6 +11,7 @@ use panel::Panel;
 ghost use mathlib.Core.Path.{_≡_};
 ghost use Prim.Native.Nat.{_+_, _≤_};
 ghost use lib.ListN.{length};
+ghost use Rattle.limits.specs.Causes.{lastMinute};
 ghost use Rattle.card_text.specs.Stores.{Put};
 ghost use Rattle.limits.specs.Refusals.{panelRefusal};
 ghost use Rattle.charring.specs.Fits.{FireFits, FireOf, FireBounds};
@@ -18,7 +19,7 @@ ghost use Rattle.fire_card.specs.Card.{charLine, charLines, ratingLines,
 
 fn put_char(out: &mut [u8], at: usize, p: Panel, f: Fire, minute: u32) -> usize
     requires { ⌜ FireFits p × (FireOf p f × FireBounds f) ⌝ }
-    requires { ⌜ (minute ≤ 360) × (at + 38 ≤ length (now out)) ⌝ }
+    requires { ⌜ (minute ≤ lastMinute) × (at + 38 ≤ length (now out)) ⌝ }
     ensures { λ r. ⌜ Put (now (out .entry)) at (charLine p minute) 38 r (now (out .exit)) ⌝ }
 {
     let char = micrometres_in(p, f, minute as u64);
@@ -39,7 +40,7 @@ fn put_chars(out: &mut [u8], at: usize, p: Panel) -> usize
 }
 
 fn put_ratings(out: &mut [u8], at: usize, load: u16, ei: u16) -> usize
-    requires { ⌜ (load ≤ 360) × (ei ≤ 360) ⌝ }
+    requires { ⌜ (load ≤ lastMinute) × (ei ≤ lastMinute) ⌝ }
     requires { ⌜ at + 64 ≤ length (now out) ⌝ }
     ensures { λ r. ⌜ Put (now (out .entry)) at (ratingLines load ei) 64 r (now (out .exit)) ⌝ }
 {

@@ -1,6 +1,7 @@
 // The open calls of this crate: they ask nothing of their caller.
 use crate::Grade;
 use crate::GradeAnswer;
+use limits::LAST_MINUTE;
 ghost use mathlib.Core.Path.{_≡_};
 ghost use Rattle.grades.specs.Answers.{gradeAnswer, reiAnswer};
 
@@ -8,7 +9,7 @@ ghost use Rattle.grades.specs.Answers.{gradeAnswer, reiAnswer};
 pub fn grade_of(minute: u16) -> GradeAnswer
     ensures { λ g. ⌜ g ≡ gradeAnswer minute ⌝ }
 {
-    if 360 < minute {
+    if LAST_MINUTE < minute {
         return GradeAnswer::Refused(15);
     }
     GradeAnswer::Of(Grade::of(minute))
@@ -18,7 +19,7 @@ pub fn grade_of(minute: u16) -> GradeAnswer
 pub fn rei_of(r: u16, ei: u16) -> GradeAnswer
     ensures { λ g. ⌜ g ≡ reiAnswer r ei ⌝ }
 {
-    if (360 < r) | (360 < ei) {
+    if (LAST_MINUTE < r) | (LAST_MINUTE < ei) {
         return GradeAnswer::Refused(15);
     }
     GradeAnswer::Of(Grade::of_lower(r, ei))

@@ -3,6 +3,7 @@ pub mod calls;
 
 ghost use mathlib.Core.Path.{_≡_};
 ghost use Prim.Native.Nat.{_≤_};
+ghost use Rattle.limits.specs.Causes.{lastMinute};
 ghost use Rattle.grades.specs.Grades.{gradeOf, reiOf};
 
 // A grade, in minutes; 0 below the least.
@@ -43,7 +44,7 @@ impl Grade {
 
     // The greatest grade that is not above the minute. No open call: a minute above 360 has no grade.
     pub fn of(minute: u16) -> Grade
-        requires { ⌜ minute ≤ 360 ⌝ }
+        requires { ⌜ minute ≤ lastMinute ⌝ }
         ensures { λ r. ⌜ r ≡ gradeOf minute ⌝ }
     {
         if 360 <= minute {
@@ -84,7 +85,7 @@ impl Grade {
 
     // The grade of the lower of R and EI. No open call: neither is above 360.
     pub fn of_lower(r: u16, ei: u16) -> Grade
-        requires { ⌜ (r ≤ 360) × (ei ≤ 360) ⌝ }
+        requires { ⌜ (r ≤ lastMinute) × (ei ≤ lastMinute) ⌝ }
         ensures { λ g. ⌜ g ≡ reiOf r ei ⌝ }
     {
         if r <= ei { Grade::of(r) } else { Grade::of(ei) }

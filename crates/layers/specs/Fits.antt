@@ -6,11 +6,13 @@ use Rattle.panel.specs.declared.Board.{Board}
 use Rattle.panel.specs.declared.Cladding.{Cladding}
 use Rattle.panel.specs.declared.Cladding.the-variants.{Unclad, One, Two}
 use Rattle.panel.specs.declared.Panel.{Panel}
+use Rattle.panel.specs.Ranges.{woodThinnest, woodThickest, thinnestBoard, thickestBoard}
+use Rattle.panel.specs.Boards.{wholeJoint}
 
 pub record BoardFits (b : Board) : Type 0 where
-  pub least : 90 ≤ b .thickness
-  pub most : b .thickness ≤ 250
-  pub coefficient : b .joint ≤ 100
+  pub least : thinnestBoard (b .kind) ≤ b .thickness
+  pub most : b .thickness ≤ thickestBoard (b .kind)
+  pub coefficient : b .joint ≤ wholeJoint
 
 abbrev pub CladdingFits : Cladding → Type 0
 CladdingFits Unclad = Unit
@@ -19,7 +21,7 @@ CladdingFits (Two outer inner) = BoardFits outer × BoardFits inner
 
 -- the first n thicknesses have basic times
 abbrev pub LamellaeFit : List ℕ → ℕ → Type 0
-LamellaeFit ts n = (i : ℕ) → i < n → (100 ≤ getD ts i 0) × (getD ts i 0 ≤ 600)
+LamellaeFit ts n = (i : ℕ) → i < n → (woodThinnest ≤ getD ts i 0) × (getD ts i 0 ≤ woodThickest)
 
 pub record LayersFit (p : Panel) : Type 0 where
   pub boards : CladdingFits (p .cladding)

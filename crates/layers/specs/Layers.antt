@@ -1,4 +1,4 @@
--- Document 01, "Layer times": what each layer gives, and EI. Times are in hundredths of a minute.
+-- Document 01, "Layer times": what each layer gives, and EI. Times are in hundredths of a minute (`partsPerMinute`).
 use Prim.Native.Nat.{ℕ, _+_, _-_, _*_, _/_, min}
 use mathlib.Core.List.{List, [], _∷_, _++_, map}
 use mathlib.Core.Bool.{Bool, true, false}
@@ -6,9 +6,10 @@ use lib.Dec.{leb}
 use Rattle.numbers.specs.Largest.{largest}
 use Rattle.panel.specs.declared.Board.{Board}
 use Rattle.panel.specs.declared.Panel.{Panel}
-use Rattle.panel.specs.Boards.{boardsOf}
+use Rattle.panel.specs.Boards.{boardsOf, wholeJoint}
 use Rattle.panel.specs.Lamellae.{Lamella, lamellae}
-use Rattle.basic_times.specs.Rules.{gypsumProtection, gypsumInsulation, woodProtection, woodInsulation}
+use Rattle.limits.specs.Causes.{lastMinute}
+use Rattle.basic_times.specs.Rules.{partsPerMinute, gypsumProtection, gypsumInsulation, woodProtection, woodInsulation}
 
 -- "From the exposed side": a board or a lamella
 pub data Layer : Type 0 where
@@ -31,7 +32,7 @@ insulation (wood l) = woodInsulation (l .thickness)
 -- "its joint coefficient (lamella 100)", hundredths
 unfoldable pub jointOf : Layer → ℕ
 jointOf (board b) = b .joint
-jointOf (wood l) = 100
+jointOf (wood l) = wholeJoint
 
 -- "4·n²·S ≤ t³"
 abbrev pub lateKeeps : ℕ → ℕ → ℕ → Bool
@@ -44,7 +45,7 @@ positioned s t = elim (leb (2 * s) t) [ true ↦ (5 * t - 3 * s) / 5 | false ↦
 
 -- "then by its joint coefficient .., each step rounded down"
 abbrev pub layerTime : ℕ → ℕ → ℕ → ℕ
-layerTime s t joint = positioned s t * joint / 100
+layerTime s t joint = positioned s t * joint / wholeJoint
 
 -- the sum with one more layer, by protection or by insulation time
 unfoldable pub withProtection : ℕ → Layer → ℕ
@@ -69,4 +70,4 @@ eiSum p = sumAfter 0 (layersOf p)
 
 -- "EI is the sum, in minutes rounded down, at most 360."
 abbrev pub eiMinute : Panel → ℕ
-eiMinute p = min (eiSum p / 100) 360
+eiMinute p = min (eiSum p / partsPerMinute) lastMinute

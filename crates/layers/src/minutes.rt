@@ -1,21 +1,26 @@
 // EI of an accepted panel, for calls that have checked the panel's lines.
 use crate::sums::ei_sum_of;
+use basic_times::PARTS_PER_MINUTE;
+use limits::LAST_MINUTE;
 use panel::Panel;
 ghost use mathlib.Core.Path.{_≡_};
 ghost use Prim.Native.Nat.{_≤_, min};
+ghost use Rattle.limits.specs.Causes.{lastMinute};
 ghost use Rattle.limits.specs.Refusals.{panelRefusal};
 ghost use Rattle.layers.specs.Layers.{eiMinute};
 
-fn at_most_360(x: u32) -> u32
-    ensures { λ r. ⌜ (r ≡ min x 360) × (r ≤ 360) ⌝ }
+const LAST: u32 = LAST_MINUTE as u32;
+
+fn at_most_last(x: u32) -> u32
+    ensures { λ r. ⌜ (r ≡ min x lastMinute) × (r ≤ lastMinute) ⌝ }
 {
-    if x <= 360 { x } else { 360 }
+    if x <= LAST { x } else { LAST }
 }
 
 // EI in whole minutes. No open call: no line may turn the panel back.
 pub fn ei_minute_of(p: Panel) -> u32
     requires { ⌜ panelRefusal p ≡ 0 ⌝ }
-    ensures { λ r. ⌜ (r ≡ eiMinute p) × (r ≤ 360) ⌝ }
+    ensures { λ r. ⌜ (r ≡ eiMinute p) × (r ≤ lastMinute) ⌝ }
 {
-    at_most_360(ei_sum_of(p) / 100)
+    at_most_last(ei_sum_of(p) / PARTS_PER_MINUTE)
 }

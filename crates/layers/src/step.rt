@@ -1,8 +1,12 @@
 // The time that one layer gives, in hundredths of a minute.
+use panel::WHOLE_JOINT;
 ghost use mathlib.Core.Path.{_≡_};
 ghost use Prim.Native.Nat.{_*_, _≤_, _<_};
 ghost use Rattle.numbers.specs.Largest.{largest};
+ghost use Rattle.panel.specs.Boards.{wholeJoint};
 ghost use Rattle.layers.specs.Layers.{lateKeeps, positioned, layerTime};
+
+const WHOLE: u64 = WHOLE_JOINT as u64;
 
 fn late_keeps(s: u64, t: u64, n: u64) -> bool
     requires { ⌜ (s ≤ 200000) × ((t ≤ 15000) × (n ≤ 15001)) ⌝ }
@@ -41,10 +45,10 @@ fn position(s: u64, t: u64) -> u64
     }
 }
 
-pub(crate) fn layer_time(s: u32, t: u16, joint: u8) -> u32
-    requires { ⌜ (s ≤ 200000) × ((t ≤ 15000) × (joint ≤ 100)) ⌝ }
+pub(crate) fn layer_time(s: u32, t: u32, joint: u8) -> u32
+    requires { ⌜ (s ≤ 200000) × ((t ≤ 15000) × (joint ≤ wholeJoint)) ⌝ }
     ensures { λ r. ⌜ (r ≡ layerTime s t joint) × (r ≤ t) ⌝ }
 {
     let n = position(s as u64, t as u64);
-    (n * (joint as u64) / 100) as u32
+    (n * (joint as u64) / WHOLE) as u32
 }

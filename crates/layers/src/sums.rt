@@ -6,17 +6,18 @@ use basic_times::wood_protection;
 use panel::Board;
 use panel::Cladding;
 use panel::Panel;
+use panel::WHOLE_JOINT;
 ghost use mathlib.Core.Path.{_≡_};
 ghost use mathlib.Core.List.{List, [], _∷_, map};
 ghost use Prim.Native.Nat.{ℕ, _+_, _≤_};
-ghost use Rattle.panel.specs.Boards.{boardsOf};
+ghost use Rattle.panel.specs.Boards.{boardsOf, wholeJoint};
 ghost use Rattle.panel.specs.Lamellae.{lamellaeOf};
 ghost use Rattle.layers.specs.Layers.{board, wood, layerTime, withProtection, protectedAfter, eiSum};
 ghost use Rattle.layers.specs.Fits.{BoardFits, CladdingFits, LamellaeFit, LayersFit};
 
 // With one more layer, by its basic time and its joint coefficient.
-fn with_layer(s: u32, t: u16, joint: u8) -> u32
-    requires { ⌜ (s ≤ 180000) × ((t ≤ 15000) × (joint ≤ 100)) ⌝ }
+fn with_layer(s: u32, t: u32, joint: u8) -> u32
+    requires { ⌜ (s ≤ 180000) × ((t ≤ 15000) × (joint ≤ wholeJoint)) ⌝ }
     ensures { λ r. ⌜ (r ≡ s + layerTime s t joint) × (r ≤ s + 15000) ⌝ }
 {
     s + layer_time(s, t, joint)
@@ -55,7 +56,7 @@ fn protected(s: u32, thicknesses: [u16; 9], n: usize) -> u32
     let mut sum = s;
     let mut i = 0;
     while i < n {
-        sum = with_layer(sum, wood_protection::at(thicknesses[i]), 100);
+        sum = with_layer(sum, wood_protection::at(thicknesses[i]), WHOLE_JOINT);
         i += 1;
     }
     sum
@@ -72,6 +73,6 @@ pub(crate) fn ei_sum_of(p: Panel) -> u32
     with_layer(
         protected(boards_sum(c), thicknesses, last),
         wood_insulation::at(thicknesses[last]),
-        100,
+        WHOLE_JOINT,
     )
 }

@@ -1,4 +1,4 @@
--- The causes of lines 3 to 13 of document 01's table, each as a test of a panel.
+-- The causes of lines 3 to 13 of document 01's table, each as a test of a panel, and of line 15, of a minute.
 use Prim.Native.Nat.{ℕ}
 use mathlib.Core.List.{List, [], _∷_}
 use mathlib.Core.Bool.{Bool, false, not, _&&_, _||_}
@@ -9,7 +9,8 @@ use Rattle.panel.specs.declared.Cladding.{Cladding}
 use Rattle.panel.specs.declared.Cladding.the-variants.{Unclad, One, Two}
 use Rattle.panel.specs.declared.Panel.{Panel}
 use Rattle.panel.specs.Lamellae.{Lamella, lamellae, along, thickness}
-use Rattle.panel.specs.Boards.{known, isF, typeF, charringStart}
+use Rattle.panel.specs.Ranges.{woodThinnest, woodThickest, thinnestBoard, thickestBoard}
+use Rattle.panel.specs.Boards.{known, isF, typeF, wholeJoint, charringStart}
 use Rattle.section.specs.Tests.{depthPasses}
 
 -- 3, bond, gap: "either above 1"
@@ -33,7 +34,7 @@ badTypes (Two outer inner) =
 
 -- 8, board numbers: "thickness outside 90 to 250, coefficient outside 1 to 100"
 abbrev pub badBoard : Board → Bool
-badBoard b = outside 90 250 (b .thickness) || outside 1 100 (b .joint)
+badBoard b = outside (thinnestBoard (b .kind)) (thickestBoard (b .kind)) (b .thickness) || outside 1 wholeJoint (b .joint)
 
 abbrev pub badBoards : Cladding → Bool
 badBoards Unclad = false
@@ -52,7 +53,7 @@ badCount count = outside 1 9 count
 
 -- 11, lamellae: "direction above 1, thickness outside 100 to 600, sum above 4,000"
 abbrev pub badLamella : Lamella → Bool
-badLamella l = ltb 1 (l .direction) || outside 100 600 (l .thickness)
+badLamella l = ltb 1 (l .direction) || outside woodThinnest woodThickest (l .thickness)
 
 -- whether a test holds of some lamella
 unfoldable pub some : (Lamella → Bool) → List Lamella → Bool
@@ -69,3 +70,10 @@ noneAlong p = not (some along (lamellae p))
 -- 13, section: "depth 0 does not pass"
 abbrev pub badSection : Panel → Bool
 badSection p = not (depthPasses p 0)
+
+-- 15, minute: "asked or wanted minute above 360"
+abbrev pub lastMinute : ℕ
+lastMinute = 360
+
+abbrev pub badMinute : ℕ → Bool
+badMinute minute = ltb lastMinute minute

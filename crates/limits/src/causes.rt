@@ -3,10 +3,13 @@ use numbers::words32::is_outside;
 use panel::Board;
 use panel::Cladding;
 use panel::Panel;
+use panel::boards::bad_thickness;
 use panel::boards::charring_start;
 use panel::boards::is_f;
 use panel::boards::is_known;
 use panel::boards::type_f;
+use panel::ranges::WOOD_THICKEST;
+use panel::ranges::WOOD_THINNEST;
 use section::test::depth_passes;
 ghost use mathlib.Core.Path.{_≡_};
 ghost use mathlib.Core.List.{List};
@@ -54,7 +57,7 @@ pub(crate) fn bad_types(c: Cladding) -> bool
 fn bad_board(b: Board) -> bool
     ensures { λ r. ⌜ r ≡ badBoard b ⌝ }
 {
-    ((b.thickness < 90) | (250 < b.thickness)) | ((b.joint < 1) | (100 < b.joint))
+    bad_thickness(b) | ((b.joint < 1) | (100 < b.joint))
 }
 
 pub(crate) fn bad_boards(c: Cladding) -> bool
@@ -85,7 +88,7 @@ pub(crate) fn bad_count(count: usize) -> bool
 fn bad_lamella(direction: u8, thickness: u16) -> bool
     ensures { λ r. ⌜ r ≡ badLamella (lamella direction thickness) ⌝ }
 {
-    (1 < direction) | ((thickness < 100) | (600 < thickness))
+    (1 < direction) | ((thickness < WOOD_THINNEST) | (WOOD_THICKEST < thickness))
 }
 
 // No open call: the count must be at most 9.

@@ -8,6 +8,9 @@ pub mod table;
 
 use section::Section;
 
+// The last minute that a call may be asked for, and that a card gives.
+pub const LAST_MINUTE: u16 = 360;
+
 // What a record's bytes say beside its panel: which of lines 1, 2 and 6 fit, and whether line 10 fits by the record's length.
 pub struct ByteFaults {
     pub length: bool,

@@ -5,6 +5,7 @@ use mathlib.Core.Path.{_≡_}
 use mathlib.Core.Bool.{Bool, true}
 use Rattle.panel.specs.declared.Panel.{Panel}
 use Rattle.section.specs.Tests.{depthPasses}
+use Rattle.limits.specs.Causes.{lastMinute}
 use Rattle.charring.specs.Depths.{tenthsAt}
 
 -- every depth from 0 to `deepest`, in whole tenths of mm, passes
@@ -41,9 +42,9 @@ pub record IsFailureTime (Passes : ℕ → ℕ → Type 0) (n q : ℕ) : Type 0 
 -- "the failure time's whole minutes, at most 360", in parts of which `unit` make a minute: the greatest number of them, at most
 -- 360 minutes, that is not above the failure time
 pub record IsWholePart (Passes : ℕ → ℕ → Type 0) (unit m : ℕ) : Type 0 where
-  pub most : m ≤ 360 * unit
+  pub most : m ≤ lastMinute * unit
   pub notAbove : NotAboveFailure Passes m unit
-  pub greatest : (k : ℕ) → k ≤ 360 * unit → NotAboveFailure Passes k unit → k ≤ m
+  pub greatest : (k : ℕ) → k ≤ lastMinute * unit → NotAboveFailure Passes k unit → k ≤ m
 
 -- 01's load minute, R
 abbrev pub IsLoadMinute : Panel → ℕ → Type 0

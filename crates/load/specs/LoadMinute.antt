@@ -5,6 +5,7 @@ use mathlib.Core.Bool.{Bool, _&&_}
 use Rattle.numbers.specs.Largest.{largest}
 use Rattle.panel.specs.declared.Panel.{Panel}
 use Rattle.section.specs.Tests.{depthPasses}
+use Rattle.limits.specs.Causes.{lastMinute}
 use Rattle.charring.specs.Depths.{tenthsAt}
 
 -- whether each depth passes, from `first` on and `more` further
@@ -19,7 +20,7 @@ timeTest p n q = everyFrom (depthPasses p) 0 (tenthsAt p n q)
 -- "the failure time's whole minutes, at most 360", in parts of which `unit` make a minute: the largest number of them, at most 360
 -- minutes, up to which every time passes. `test` says of a time whether it and every earlier one pass
 unfoldable pub wholePart : (ℕ → ℕ → Bool) → ℕ → ℕ
-wholePart test unit = largest (λ (m : ℕ). test m unit) (360 * unit)
+wholePart test unit = largest (λ (m : ℕ). test m unit) (lastMinute * unit)
 
 -- 01's load minute, R
 unfoldable pub loadMinute : Panel → ℕ

@@ -7,6 +7,7 @@ use limits::calls::panel_refusal;
 use panel::Panel;
 ghost use mathlib.Core.Path.{_≡_};
 ghost use Prim.Native.Nat.{_≤_};
+ghost use Rattle.limits.specs.Causes.{lastMinute};
 ghost use Rattle.load.specs.Answers.{loadAnswer, reserveAnswer, reserveOf};
 
 // The load minute.
@@ -21,7 +22,7 @@ pub fn load_minute(p: Panel) -> LoadAnswer
 }
 
 fn reserve_of(load: u16, wanted: u16) -> i32
-    requires { ⌜ (load ≤ 360) × (wanted ≤ 360) ⌝ }
+    requires { ⌜ (load ≤ lastMinute) × (wanted ≤ lastMinute) ⌝ }
     ensures { λ r. ⌜ r ≡ reserveOf wanted load ⌝ }
 {
     load as i32 - wanted as i32

@@ -1,6 +1,7 @@
 // The load minute, minute by minute. No open calls: the limits must hold, and depth 0 must pass.
 use charring::depths::tenths_in;
 use charring::fires::fire_of;
+use limits::LAST_MINUTE;
 use panel::Panel;
 use section::test::depth_passes;
 ghost use mathlib.Core.Path.{_≡_};
@@ -33,7 +34,7 @@ pub(crate) fn scan(p: Panel) -> u16
     let f = fire_of(p);
     let mut minute: u16 = 0;
     let mut depth: u32 = tenths_in(p, f, 0);
-    while minute < 360 {
+    while minute < LAST_MINUTE {
         let next = tenths_in(p, f, minute as u64 + 1);
         if !further_pass(p, depth, next) {
             return minute;

@@ -14,19 +14,32 @@ boardsOf Unclad = []
 boardsOf (One b) = b ∷ []
 boardsOf (Two outer inner) = outer ∷ inner ∷ []
 
--- "type A, F or H as its ASCII letter": 65, 70 and 72
+-- "type A, F or H as its ASCII letter"
+abbrev pub letterA : ℕ
+letterA = 65
+
+abbrev pub letterF : ℕ
+letterF = 70
+
+abbrev pub letterH : ℕ
+letterH = 72
+
 abbrev pub known : Board → Bool
-known b = eqb (b .kind) 65 || eqb (b .kind) 70 || eqb (b .kind) 72
+known b = eqb (b .kind) letterA || eqb (b .kind) letterF || eqb (b .kind) letterH
 
 -- type F, whose failure time is given
 abbrev pub isF : Board → Bool
-isF b = eqb (b .kind) 70
+isF b = eqb (b .kind) letterF
 
 -- whether the boards are of type F: both are or neither, by line 7
 abbrev pub typeF : Cladding → Bool
 typeF Unclad = false
 typeF (One b) = isF b
 typeF (Two outer inner) = isF outer
+
+-- a joint coefficient that takes nothing off, in hundredths
+abbrev pub wholeJoint : ℕ
+wholeJoint = 100
 
 -- "Wide gap: 23,000 for 14,000", thousandths of a minute
 abbrev pub gapLoss : ℕ → ℕ

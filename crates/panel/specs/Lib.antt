@@ -1,4 +1,5 @@
 pub mod Lamellae
+pub mod Ranges
 pub mod Boards
 pub mod Timber
 pub mod Builds

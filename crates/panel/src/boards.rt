@@ -2,21 +2,32 @@
 use crate::Board;
 use crate::Cladding;
 use numbers::words32::pick;
+use crate::ranges::GYPSUM_THICKEST;
+use crate::ranges::GYPSUM_THINNEST;
 use numbers::words32::less;
 ghost use mathlib.Core.Path.{_≡_};
 ghost use Prim.Native.Nat.{_*_, _<_};
+ghost use Rattle.numbers.specs.Choice.{outside};
+ghost use Rattle.panel.specs.Ranges.{thinnestBoard, thickestBoard};
 ghost use Rattle.panel.specs.Boards.{known, isF, typeF, gapLoss, innerGain, charringStart};
 
 pub fn is_known(b: Board) -> bool
     ensures { λ r. ⌜ r ≡ known b ⌝ }
 {
-    (b.kind == 65) | (b.kind == 70) | (b.kind == 72)
+    (b.kind == b'A') | (b.kind == b'F') | (b.kind == b'H')
 }
 
 pub fn is_f(b: Board) -> bool
     ensures { λ r. ⌜ r ≡ isF b ⌝ }
 {
-    b.kind == 70
+    b.kind == b'F'
+}
+
+// Whether the thickness is none that the board's type is made in.
+pub fn bad_thickness(b: Board) -> bool
+    ensures { λ r. ⌜ r ≡ outside (thinnestBoard (b .kind)) (thickestBoard (b .kind)) (b .thickness) ⌝ }
+{
+    (b.thickness < GYPSUM_THINNEST) | (GYPSUM_THICKEST < b.thickness)
 }
 
 pub fn type_f(c: Cladding) -> bool

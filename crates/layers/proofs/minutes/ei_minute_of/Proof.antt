@@ -8,7 +8,7 @@ use Rattle.layers.proofs.minutes.ei_minute_of.Tie as tie
 
 returns : tie.Need-returns
 returns c =
-    (c .at-most-360 .ensures .0 ∙ ap (λ (k : ℕ). min (k / 100) 360) (c .before .ei-sum-of .ensures), c .at-most-360 .ensures .1)
+    (c .at-most-last .ensures .0 ∙ ap (λ (k : ℕ). min (k / 100) 360) (c .before .ei-sum-of .ensures), c .at-most-last .ensures .1)
 
 pub ei-minute-of-spec : {M : Type 1} → statement M
 ei-minute-of-spec =
