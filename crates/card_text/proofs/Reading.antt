@@ -9,7 +9,7 @@ use borrow.Author.Tests.{le-ltb, ne-eqb, eq-eqb}
 use lib.Dec.{eqb}
 use Rattle.numbers.specs.Choice.{outside}
 use Rattle.numbers.proofs.Booleans.{none-or, not-both}
-use Rattle.card_text.specs.Text.{digits, decimal, fields, line, after, numberFrom, firstNumber}
+use Rattle.card_text.specs.Text.{digits, decimal, textFields, textLine, after, numberFrom, firstNumber}
 use Rattle.card_text.proofs.Digits.{by-size, tenth-below}
 
 -- no byte of the text is `mark`
@@ -63,16 +63,16 @@ free-digits mark e (suc k) n =
     free-digit : (d : ℕ) → d < 10 → free mark ((48 + d) ∷ []) ≡ true
     free-digit d h = rw (digit-other mark d e h, free)
 
-free-fields : (ns : List ℕ) → free 10 (fields ns) ≡ true
-unfolding fields
+free-fields : (ns : List ℕ) → free 10 (textFields ns) ≡ true
+unfolding textFields
 free-fields [] = refl
-free-fields (n ∷ ns) = free-append 10 (decimal n) (fields ns) (free-digits 10 refl 10 n) (free-fields ns)
+free-fields (n ∷ ns) = free-append 10 (decimal n) (textFields ns) (free-digits 10 refl 10 n) (free-fields ns)
 
 -- a line whose head has no line feed ends at its own
-pub after-line : (head ns rest : List ℕ) → free 10 head ≡ true → after 10 (line head ns ++ rest) ≡ rest
+pub after-line : (head ns rest : List ℕ) → free 10 head ≡ true → after 10 (textLine head ns ++ rest) ≡ rest
 after-line head ns rest h =
-    ap (after 10) (append-assoc (head ++ fields ns) (10 ∷ []) rest)
-    ∙ after-free 10 (head ++ fields ns) rest (free-append 10 head (fields ns) h (free-fields ns))
+    ap (after 10) (append-assoc (head ++ textFields ns) (10 ∷ []) rest)
+    ∙ after-free 10 (head ++ textFields ns) rest (free-append 10 head (textFields ns) h (free-fields ns))
 
 -- Numbers
 
@@ -103,13 +103,13 @@ decimal-value n h rest e = numberFrom-digits 10 n rest h ∙ numberFrom-ends n r
 
 -- the number in a line's first field is the first number
 pub first-number :
-    (head : List ℕ) (n : ℕ) (ns rest : List ℕ) → free 32 head ≡ true → n < 10000000000 → firstNumber (line head (n ∷ ns) ++ rest) ≡ n
-unfolding fields
+    (head : List ℕ) (n : ℕ) (ns rest : List ℕ) → free 32 head ≡ true → n < 10000000000 → firstNumber (textLine head (n ∷ ns) ++ rest) ≡ n
+unfolding textFields
 first-number head n ns rest e h =
     ap firstNumber (simp append-assoc)
-    ∙ ap (numberFrom 0) (after-free 32 head (decimal n ++ (fields ns ++ ((10 ∷ []) ++ rest))) e)
-    ∙ decimal-value n h (fields ns ++ ((10 ∷ []) ++ rest)) (after-number ns)
+    ∙ ap (numberFrom 0) (after-free 32 head (decimal n ++ (textFields ns ++ ((10 ∷ []) ++ rest))) e)
+    ∙ decimal-value n h (textFields ns ++ ((10 ∷ []) ++ rest)) (after-number ns)
   where
-    after-number : (ns : List ℕ) → noDigit (fields ns ++ ((10 ∷ []) ++ rest)) ≡ true
+    after-number : (ns : List ℕ) → noDigit (textFields ns ++ ((10 ∷ []) ++ rest)) ≡ true
     after-number [] = refl
     after-number (m ∷ ns) = refl

@@ -15,13 +15,13 @@ abbrev pub decimal : ℕ → List ℕ
 decimal n = digits 10 n
 
 -- "Fields stand one blank apart"
-unfoldable pub fields : List ℕ → List ℕ
-fields [] = []
-fields (n ∷ ns) = (32 ∷ decimal n) ++ fields ns
+unfoldable pub textFields : List ℕ → List ℕ
+textFields [] = []
+textFields (n ∷ ns) = (32 ∷ decimal n) ++ textFields ns
 
 -- "and each line ends in one line feed."
-abbrev pub line : List ℕ → List ℕ → List ℕ
-line head ns = head ++ fields ns ++ (10 ∷ [])
+abbrev pub textLine : List ℕ → List ℕ → List ℕ
+textLine head ns = head ++ textFields ns ++ (10 ∷ [])
 
 -- Reading back
 

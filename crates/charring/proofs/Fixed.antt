@@ -110,8 +110,8 @@ module _
       go (yes h) (inl a) =
           let deeper : a .l < lineEnd (a .l) (a .below) = line-end-deeper (deeper-after (a .above) (rw (a .split) at (lines-deeper p accepted))) in
           starts-fast n q (lineEnd (a .l) (a .below)) pos
-          (c₁ .line n q pos past (a .above) (a .l) (a .below) (a .split) (a .at))
-          (c₂ .line n q pos past (a .above) (a .l) (a .below) (a .split) (sym same ∙ a .at))
+          (c₁ .bondLine n q pos past (a .above) (a .l) (a .below) (a .split) (a .at))
+          (c₂ .bondLine n q pos past (a .above) (a .l) (a .below) (a .split) (sym same ∙ a .at))
           (omega (arith, a .at, mul-lt-mul-of-pos-left deeper pos)) h
 
   -- charred through, both stay so

@@ -244,7 +244,7 @@ charring-stated p e =
           (at-failure p n q order pos time short free ∙ run-fast (firstEnd p) (charAt p n q) q h);
       startsNot = λ n q pos time short free h.
           at-failure p n q order pos time short free ∙ run-settled (firstEnd p) (charAt p n q) q h;
-      line = at-line p e;
+      bondLine = at-line p e;
       fastGrows = λ n m q e d _. fast-grows p n m q e d;
       fastLasts = λ n m q e _. fast-lasts p n m q e;
       fastEnds = λ n m q e _. fast-ends p n m q e;

@@ -68,7 +68,7 @@ pub record Charring (p : Panel) (depth : ℕ → ℕ → ℕ) (phase : ℕ → �
       → phase n q ≡ Settled
   -- "Bond falls: when the char reaches a bond line at or after t_f, a new run at 2β starts, in place of any other, and ends 25 mm past
   -- that line or at the next line. A bond line passed before t_f starts nothing."
-  pub line :
+  pub bondLine :
       (n q : ℕ) → 0 < q → q * failureOf p ≤ 1000 * n → (above : List ℕ) (l : ℕ) (below : List ℕ) → bondLines p ≡ above ++ (l ∷ below)
       → depth n q ≡ 2 * q * l → FastUpTo (phase n q) (lineEnd l below)
   -- a fast phase chars at 2β up to its end, the next line and the back face

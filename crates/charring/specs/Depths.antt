@@ -1,11 +1,11 @@
--- Document 01, "Charring" and "Remaining section": char depth and effective depth at p/q minutes. Everything at p/q is given
+-- Document 01, "Charring" and "Remaining section": char depth and effective depth at n/q minutes. Everything at n/q is given
 -- times q, so that it is whole.
 use Prim.Native.Nat.{ℕ, _+_, _-_, _*_, _/_, min, max}
 use Rattle.panel.specs.declared.Panel.{Panel}
 use Rattle.charring.specs.Fires.{tenth, startOf, failureOf, plainRate, slowRate, backFace}
 use Rattle.charring.specs.Stages.{way, charred}
 
--- "Before t_ch no charring. From t_ch to t_f the rate is k2·β": what has charred by p/q, up to t_f; half picometres, times q
+-- "Before t_ch no charring. From t_ch to t_f the rate is k2·β": what has charred by n/q, up to t_f; half picometres, times q
 abbrev pub underAt : Panel → ℕ → ℕ → ℕ
 underAt p n q = 2 * slowRate p * min (1000 * n - q * startOf p) (q * (failureOf p - startOf p))
 

@@ -8,7 +8,7 @@ use crate::fires::fire_of;
 use crate::phases::phase_at;
 use crate::table::fill;
 use limits::calls::panel_refusal;
-use limits::lines::line_or;
+use limits::table::line_or;
 use limits::LAST_MINUTE;
 use panel::Panel;
 ghost use mathlib.Core.Path.{_≡_};

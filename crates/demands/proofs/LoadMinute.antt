@@ -18,7 +18,7 @@ use Rattle.load.proofs.LoadMinutes.{load-most, accepted-load-minute}
 use Rattle.load.proofs.WholeParts.{whole-exactly}
 use Rattle.load.proofs.Closeness.{load-next-above}
 use Rattle.load.proofs.Exposure.{not-enlarged}
-use Rattle.card_text.specs.Text.{line, after, firstNumber}
+use Rattle.card_text.specs.Text.{textLine, after, firstNumber}
 use Rattle.card_text.proofs.Reading.{after-line, first-number}
 use Rattle.fire_card.specs.Card.{cardHead, charHead, loadHead, eiHead, reiHead, charLine, cardText}
 use Rattle.fire_card.proofs.Prints.{printed-card}
@@ -55,7 +55,7 @@ after-char p minute rest = after-line charHead (minute ∷ micrometresAt p minut
 pub printed-is : (p : Panel) → printedMinute (cardText p) ≡ loadMinute p
 unfolding cardText
 printed-is p =
-    ap printedMinute (in-a-row (line cardHead (1 ∷ [])) (charLine p 30) (charLine p 60) (charLine p 90) (charLine p 120) loadLine eiLine reiLine)
+    ap printedMinute (in-a-row (textLine cardHead (1 ∷ [])) (charLine p 30) (charLine p 60) (charLine p 90) (charLine p 120) loadLine eiLine reiLine)
     ∙ ap (λ (t : List ℕ). firstNumber (after 10 (after 10 (after 10 (after 10 t))))) (after-line cardHead (1 ∷ []) (charLine p 30 ++ from60) refl)
     ∙ ap (λ (t : List ℕ). firstNumber (after 10 (after 10 (after 10 t)))) (after-char p 30 from60)
     ∙ ap (λ (t : List ℕ). firstNumber (after 10 (after 10 t))) (after-char p 60 from90)
@@ -67,13 +67,13 @@ printed-is p =
     load = loadMinute p
 
     loadLine : List ℕ
-    loadLine = line loadHead (load ∷ gradeOf load .minutes ∷ [])
+    loadLine = textLine loadHead (load ∷ gradeOf load .minutes ∷ [])
 
     eiLine : List ℕ
-    eiLine = line eiHead (eiMinute p ∷ gradeOf (eiMinute p) .minutes ∷ [])
+    eiLine = textLine eiHead (eiMinute p ∷ gradeOf (eiMinute p) .minutes ∷ [])
 
     reiLine : List ℕ
-    reiLine = line reiHead (reiOf load (eiMinute p) .minutes ∷ [])
+    reiLine = textLine reiHead (reiOf load (eiMinute p) .minutes ∷ [])
 
     fromLoad : List ℕ
     fromLoad = loadLine ++ (eiLine ++ reiLine)

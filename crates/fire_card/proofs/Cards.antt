@@ -12,7 +12,7 @@ use Rattle.record.specs.Answers.{reading, blank, decode}
 use Rattle.layers.specs.Layers.{eiMinute}
 use Rattle.grades.specs.Grades.{gradeOf, reiOf}
 use Rattle.charring.specs.Depths.{micrometresAt, tenthsAt}
-use Rattle.card_text.specs.Text.{line}
+use Rattle.card_text.specs.Text.{textLine}
 use Rattle.card_text.proofs.Lengths.{length-line}
 use Rattle.load.specs.LoadMinute.{loadMinute}
 use Rattle.fire_card.specs.Card.{cardHead, charHead, loadHead, eiHead, reiHead, charLine, charLines, ratingLines, cardText}
@@ -40,8 +40,8 @@ both-most xs ys m n h k = simp length-append (omega arith)
 pub card-length : (p : Panel) → length (cardText p) ≤ 232
 unfolding cardText
 card-length p =
-    both-most (line cardHead (1 ∷ []) ++ charLines p) (ratingLines load ei) 168 64
-    (both-most (line cardHead (1 ∷ [])) (charLines p) 16 152 (length-line cardHead (1 ∷ []))
+    both-most (textLine cardHead (1 ∷ []) ++ charLines p) (ratingLines load ei) 168 64
+    (both-most (textLine cardHead (1 ∷ [])) (charLines p) 16 152 (length-line cardHead (1 ∷ []))
     (both-most (charLine p 30 ++ charLine p 60 ++ charLine p 90) (charLine p 120) 114 38
     (both-most (charLine p 30 ++ charLine p 60) (charLine p 90) 76 38
     (both-most (charLine p 30) (charLine p 60) 38 38 (char 30) (char 60)) (char 90)) (char 120)))
@@ -59,10 +59,10 @@ card-length p =
     char minute = length-line charHead (minute ∷ micrometresAt p minute 1 ∷ tenthsAt p minute 1 ∷ [])
 
     loadLine : List ℕ
-    loadLine = line loadHead (load ∷ gradeOf load .minutes ∷ [])
+    loadLine = textLine loadHead (load ∷ gradeOf load .minutes ∷ [])
 
     eiLine : List ℕ
-    eiLine = line eiHead (ei ∷ gradeOf ei .minutes ∷ [])
+    eiLine = textLine eiHead (ei ∷ gradeOf ei .minutes ∷ [])
 
     reiLine : List ℕ
-    reiLine = line reiHead (reiOf load ei .minutes ∷ [])
+    reiLine = textLine reiHead (reiOf load ei .minutes ∷ [])

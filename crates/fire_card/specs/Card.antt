@@ -1,7 +1,7 @@
 -- Document 01, the printed card.
 use Prim.Native.Nat.{ℕ}
 use mathlib.Core.List.{List, [], _∷_, _++_}
-use Rattle.card_text.specs.Text.{line}
+use Rattle.card_text.specs.Text.{textLine}
 use Rattle.panel.specs.declared.Panel.{Panel}
 use Rattle.charring.specs.Depths.{micrometresAt, tenthsAt}
 use Rattle.layers.specs.Layers.{eiMinute}
@@ -38,7 +38,7 @@ refusalHead = 82 ∷ 69 ∷ 70 ∷ 85 ∷ 83 ∷ 69 ∷ 68 ∷ []
 
 -- "CHAR .. the minute, char depth (micrometres, up) and effective depth (tenths of mm, up)"
 abbrev pub charLine : Panel → ℕ → List ℕ
-charLine p minute = line charHead (minute ∷ micrometresAt p minute 1 ∷ tenthsAt p minute 1 ∷ [])
+charLine p minute = textLine charHead (minute ∷ micrometresAt p minute 1 ∷ tenthsAt p minute 1 ∷ [])
 
 -- "CHAR, always these four minutes"
 abbrev pub charLines : Panel → List ℕ
@@ -47,12 +47,12 @@ charLines p = charLine p 30 ++ charLine p 60 ++ charLine p 90 ++ charLine p 120
 -- "R and EI the minute and grade; REI the grade"
 abbrev pub ratingLines : ℕ → ℕ → List ℕ
 ratingLines load ei =
-    line loadHead (load ∷ gradeOf load .minutes ∷ []) ++ line eiHead (ei ∷ gradeOf ei .minutes ∷ []) ++ line reiHead (reiOf load ei .minutes ∷ [])
+    textLine loadHead (load ∷ gradeOf load .minutes ∷ []) ++ textLine eiHead (ei ∷ gradeOf ei .minutes ∷ []) ++ textLine reiHead (reiOf load ei .minutes ∷ [])
 
 -- the card of a panel; "CARD has the version"
 unfoldable pub cardText : Panel → List ℕ
-cardText p = line cardHead (1 ∷ []) ++ charLines p ++ ratingLines (loadMinute p) (eiMinute p)
+cardText p = textLine cardHead (1 ∷ []) ++ charLines p ++ ratingLines (loadMinute p) (eiMinute p)
 
 -- "A refusal prints only `REFUSED` and its number"
 abbrev pub refusalText : ℕ → List ℕ
-refusalText n = line refusalHead (n ∷ [])
+refusalText n = textLine refusalHead (n ∷ [])

@@ -1,8 +1,8 @@
 // The open calls of this crate: they ask nothing of their caller.
 use crate::CardAnswer;
 use crate::lines::put_card;
-use card_text::lines::put_bytes;
-use card_text::lines::put_line;
+use card_text::text::put_bytes;
+use card_text::text::put_line;
 ghost use mathlib.Core.Path.{_≡_};
 ghost use mathlib.Core.List.{[]};
 ghost use Rattle.fire_card.specs.Answers.{textAnswer, textAfter, cardAnswer, cardAfter, refusalAnswer, refusalAfter};

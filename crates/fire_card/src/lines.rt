@@ -1,5 +1,5 @@
 // The lines of a card, one after the other. No open calls: the panel must be accepted, and the longest card must fit.
-use card_text::lines::put_line;
+use card_text::text::put_line;
 use charring::Fire;
 use charring::depths::micrometres_in;
 use charring::depths::tenths_in;

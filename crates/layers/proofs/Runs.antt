@@ -5,7 +5,7 @@ use mathlib.Core.List.{List, [], _∷_, _++_, map, map-append, append-assoc}
 use native.Mathlib.Numerals.{add-one}
 use lib.ListN.{getD}
 use Rattle.panel.specs.Lamellae.{lamella, lamellaeOf}
-use Rattle.layers.specs.Layers.{Layer, wood, withProtection, withInsulation, protectedAfter, sumAfter}
+use Rattle.layers.specs.Layers.{Layer, lamellaLayer, withProtection, withInsulation, protectedAfter, sumAfter}
 
 protected-append : (s : ℕ) (xs ys : List Layer) → protectedAfter s (xs ++ ys) ≡ protectedAfter (protectedAfter s xs) ys
 unfolding protectedAfter
@@ -21,30 +21,30 @@ sum-last s (y ∷ z ∷ xs) x = sum-last (withProtection s y) (z ∷ xs) x
 
 wood-more :
     (gs ts : List ℕ) (i : ℕ)
-    → map wood (lamellaeOf gs ts (suc i)) ≡ map wood (lamellaeOf gs ts i) ++ (wood (lamella (getD gs i 0) (getD ts i 0)) ∷ [])
+    → map lamellaLayer (lamellaeOf gs ts (suc i)) ≡ map lamellaLayer (lamellaeOf gs ts i) ++ (lamellaLayer (lamella (getD gs i 0) (getD ts i 0)) ∷ [])
 unfolding lamellaeOf
-wood-more gs ts i = map-append wood (lamellaeOf gs ts i) (lamella (getD gs i 0) (getD ts i 0) ∷ [])
+wood-more gs ts i = map-append lamellaLayer (lamellaeOf gs ts i) (lamella (getD gs i 0) (getD ts i 0) ∷ [])
 
 -- one lamella more, by protection
 pub protected-more :
     (s : ℕ) (gs ts : List ℕ) (i : ℕ)
-    → protectedAfter s (map wood (lamellaeOf gs ts (i + 1)))
-    ≡ withProtection (protectedAfter s (map wood (lamellaeOf gs ts i))) (wood (lamella (getD gs i 0) (getD ts i 0)))
+    → protectedAfter s (map lamellaLayer (lamellaeOf gs ts (i + 1)))
+    ≡ withProtection (protectedAfter s (map lamellaLayer (lamellaeOf gs ts i))) (lamellaLayer (lamella (getD gs i 0) (getD ts i 0)))
 unfolding protectedAfter
 protected-more s gs ts i =
-    ap (λ (k : ℕ). protectedAfter s (map wood (lamellaeOf gs ts k))) (add-one i)
+    ap (λ (k : ℕ). protectedAfter s (map lamellaLayer (lamellaeOf gs ts k))) (add-one i)
     ∙ ap (protectedAfter s) (wood-more gs ts i)
-    ∙ protected-append s (map wood (lamellaeOf gs ts i)) (wood (lamella (getD gs i 0) (getD ts i 0)) ∷ [])
+    ∙ protected-append s (map lamellaLayer (lamellaeOf gs ts i)) (lamellaLayer (lamella (getD gs i 0) (getD ts i 0)) ∷ [])
 
 -- boards, then lamellae of which the last is lamella i
 pub sum-of :
     (bs : List Layer) (gs ts : List ℕ) (i : ℕ)
-    → sumAfter 0 (bs ++ map wood (lamellaeOf gs ts (i + 1)))
-    ≡ withInsulation (protectedAfter (protectedAfter 0 bs) (map wood (lamellaeOf gs ts i))) (wood (lamella (getD gs i 0) (getD ts i 0)))
+    → sumAfter 0 (bs ++ map lamellaLayer (lamellaeOf gs ts (i + 1)))
+    ≡ withInsulation (protectedAfter (protectedAfter 0 bs) (map lamellaLayer (lamellaeOf gs ts i))) (lamellaLayer (lamella (getD gs i 0) (getD ts i 0)))
 sum-of bs gs ts i =
-    let ws = map wood (lamellaeOf gs ts i) in
-    let x = wood (lamella (getD gs i 0) (getD ts i 0)) in
-    ap (λ (k : ℕ). sumAfter 0 (bs ++ map wood (lamellaeOf gs ts k))) (add-one i)
+    let ws = map lamellaLayer (lamellaeOf gs ts i) in
+    let x = lamellaLayer (lamella (getD gs i 0) (getD ts i 0)) in
+    ap (λ (k : ℕ). sumAfter 0 (bs ++ map lamellaLayer (lamellaeOf gs ts k))) (add-one i)
     ∙ ap (λ (l : List Layer). sumAfter 0 (bs ++ l)) (wood-more gs ts i)
     ∙ ap (sumAfter 0) (sym (append-assoc bs ws (x ∷ [])))
     ∙ sum-last 0 (bs ++ ws) x

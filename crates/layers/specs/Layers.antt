@@ -13,26 +13,26 @@ use Rattle.basic_times.specs.Rules.{partsPerMinute, gypsumProtection, gypsumIns
 
 -- "From the exposed side": a board or a lamella
 pub data Layer : Type 0 where
-  board : Board → Layer
-  wood : Lamella → Layer
+  boardLayer : Board → Layer
+  lamellaLayer : Lamella → Layer
 
 -- the layers of a panel, from the exposed side
 abbrev pub layersOf : Panel → List Layer
-layersOf p = map board (boardsOf (p .cladding)) ++ map wood (lamellae p)
+layersOf p = map boardLayer (boardsOf (p .cladding)) ++ map lamellaLayer (lamellae p)
 
 -- basic times
 unfoldable pub protection : Layer → ℕ
-protection (board b) = gypsumProtection (b .thickness)
-protection (wood l) = woodProtection (l .thickness)
+protection (boardLayer b) = gypsumProtection (b .thickness)
+protection (lamellaLayer l) = woodProtection (l .thickness)
 
 unfoldable pub insulation : Layer → ℕ
-insulation (board b) = gypsumInsulation (b .thickness)
-insulation (wood l) = woodInsulation (l .thickness)
+insulation (boardLayer b) = gypsumInsulation (b .thickness)
+insulation (lamellaLayer l) = woodInsulation (l .thickness)
 
 -- "its joint coefficient (lamella 100)", hundredths
 unfoldable pub jointOf : Layer → ℕ
-jointOf (board b) = b .joint
-jointOf (wood l) = wholeJoint
+jointOf (boardLayer b) = b .joint
+jointOf (lamellaLayer l) = wholeJoint
 
 -- "4·n²·S ≤ t³"
 abbrev pub lateKeeps : ℕ → ℕ → ℕ → Bool

@@ -12,7 +12,7 @@ ghost use mathlib.Core.List.{List, [], _∷_, map};
 ghost use Prim.Native.Nat.{ℕ, _+_, _≤_};
 ghost use Rattle.panel.specs.Boards.{boardsOf, wholeJoint};
 ghost use Rattle.panel.specs.Lamellae.{lamellaeOf};
-ghost use Rattle.layers.specs.Layers.{board, wood, layerTime, withProtection, protectedAfter, eiSum};
+ghost use Rattle.layers.specs.Layers.{boardLayer, lamellaLayer, layerTime, withProtection, protectedAfter, eiSum};
 ghost use Rattle.layers.specs.Fits.{BoardFits, CladdingFits, LamellaeFit, LayersFit};
 
 // With one more layer, by its basic time and its joint coefficient.
@@ -25,21 +25,21 @@ fn with_layer(s: u32, t: u32, joint: u8) -> u32
 
 fn with_board(s: u32, b: Board) -> u32
     requires { ⌜ (s ≤ 180000) × BoardFits b ⌝ }
-    ensures { λ r. ⌜ (r ≡ withProtection s (board b)) × (r ≤ s + 15000) ⌝ }
+    ensures { λ r. ⌜ (r ≡ withProtection s (boardLayer b)) × (r ≤ s + 15000) ⌝ }
 {
     with_layer(s, gypsum_protection::at(b.thickness), b.joint)
 }
 
 fn with_two(outer: Board, inner: Board) -> u32
     requires { ⌜ BoardFits outer × BoardFits inner ⌝ }
-    ensures { λ r. ⌜ (r ≡ protectedAfter 0 (board outer ∷ board inner ∷ [])) × (r ≤ 30000) ⌝ }
+    ensures { λ r. ⌜ (r ≡ protectedAfter 0 (boardLayer outer ∷ boardLayer inner ∷ [])) × (r ≤ 30000) ⌝ }
 {
     with_board(with_board(0, outer), inner)
 }
 
 fn boards_sum(c: Cladding) -> u32
     requires { ⌜ CladdingFits c ⌝ }
-    ensures { λ r. ⌜ (r ≡ protectedAfter 0 (map board (boardsOf c))) × (r ≤ 30000) ⌝ }
+    ensures { λ r. ⌜ (r ≡ protectedAfter 0 (map boardLayer (boardsOf c))) × (r ≤ 30000) ⌝ }
 {
     match c {
         Cladding::Unclad => 0,
@@ -51,7 +51,7 @@ fn boards_sum(c: Cladding) -> u32
 // After the first n lamellae, all by protection. Their directions do not matter.
 fn protected(s: u32, thicknesses: [u16; 9], n: usize) -> u32
     requires { ⌜ (s ≤ 30000) × ((n ≤ 8) × LamellaeFit thicknesses n) ⌝ }
-    ensures { λ r. ⌜ ((gs : List ℕ) → r ≡ protectedAfter s (map wood (lamellaeOf gs thicknesses n))) × (r ≤ 180000) ⌝ }
+    ensures { λ r. ⌜ ((gs : List ℕ) → r ≡ protectedAfter s (map lamellaLayer (lamellaeOf gs thicknesses n))) × (r ≤ 180000) ⌝ }
 {
     let mut sum = s;
     let mut i = 0;

@@ -3,7 +3,6 @@
 mod builds;
 pub mod calls;
 pub mod causes;
-pub mod lines;
 pub mod table;
 
 use section::Section;

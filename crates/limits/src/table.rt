@@ -10,11 +10,18 @@ use crate::causes::bad_rate;
 use crate::causes::bad_section;
 use crate::causes::bad_types;
 use crate::causes::none_along;
-use crate::lines::line_or;
 use panel::Panel;
 ghost use mathlib.Core.Path.{_≡_};
+ghost use Rattle.numbers.specs.Choice.{pick};
 ghost use Rattle.limits.specs.Lines.{refusal, downTo};
 ghost use Rattle.limits.specs.Refusals.{tableLines};
+
+// The line's number where its cause fits, else what the lines below it say.
+pub fn line_or(number: u8, fits: bool, below: u8) -> u8
+    ensures { λ r. ⌜ r ≡ pick fits number below ⌝ }
+{
+    if fits { number } else { below }
+}
 
 // Lines 1 to 10, from the bottom up.
 fn upper_refusal(f: ByteFaults, p: Panel) -> u8

@@ -1,6 +1,6 @@
 -- `fire_card::lines::put_ratings` meets its contract: each line begins where the one before ends. Assumes nothing.
 use Rattle.card_text.proofs.Storing.{put-same, put-then}
-use Rattle.card_text.specs.Text.{line}
+use Rattle.card_text.specs.Text.{textLine}
 use Rattle.fire_card.specs.Card.{loadHead, eiHead, reiHead}
 use Rattle.grades.specs.declared.Grade.{Grade}
 use borrow.Author.Needs.{needs}
@@ -16,9 +16,9 @@ returns c =
     let c21 = c16 .before .before .before .before .before in
     let a = c21 .before .before .before .before .args in
     put-then
-    (put-then (put-same (ap (λ (g : Grade). line loadHead (a .load ∷ g .minutes ∷ [])) (c21 .before .before .of .ensures)) (c16 .put-line .ensures))
-    (put-same (ap (λ (g : Grade). line eiHead (a .ei ∷ g .minutes ∷ [])) (c21 .before .of2 .ensures)) (c9 .put-line2 .ensures)))
-    (put-same (ap (λ (g : Grade). line reiHead (g .minutes ∷ [])) (c21 .of-lower .ensures)) (c .before .before .put-line3 .ensures))
+    (put-then (put-same (ap (λ (g : Grade). textLine loadHead (a .load ∷ g .minutes ∷ [])) (c21 .before .before .of .ensures)) (c16 .put-line .ensures))
+    (put-same (ap (λ (g : Grade). textLine eiHead (a .ei ∷ g .minutes ∷ [])) (c21 .before .of2 .ensures)) (c9 .put-line2 .ensures)))
+    (put-same (ap (λ (g : Grade). textLine reiHead (g .minutes ∷ [])) (c21 .of-lower .ensures)) (c .before .before .put-line3 .ensures))
 
 pub put-ratings-spec : {M : Type 1} → statement M
 put-ratings-spec =

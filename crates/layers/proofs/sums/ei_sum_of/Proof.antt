@@ -2,7 +2,7 @@
 use Prim.Native.Nat.{ℕ, _+_, _-_}
 use Rattle.layers.proofs.BasicTimes.{time-most}
 use Rattle.layers.proofs.Runs.{sum-of}
-use Rattle.layers.specs.Layers.{layerTime, withInsulation, insulation, jointOf, board, wood, sumAfter, eiSum, protectedAfter}
+use Rattle.layers.specs.Layers.{layerTime, withInsulation, insulation, jointOf, boardLayer, lamellaLayer, sumAfter, eiSum, protectedAfter}
 use Rattle.panel.specs.Boards.{boardsOf}
 use Rattle.panel.specs.Lamellae.{lamella, lamellaeOf}
 use borrow.Author.Needs.{needs}
@@ -31,15 +31,15 @@ returns c =
     let p = s .before .before .before .before .args .p in
     let gs = p .directions in
     let ts = p .thicknesses in
-    let bs = map board (boardsOf (p .cladding)) in
+    let bs = map boardLayer (boardsOf (p .cladding)) in
     let i = p .count - 1 in
     let e : i + 1 ≡ p .count = omega arith in
     c .with-layer .ensures .0
     ∙ ap (λ (t : ℕ). s .protected .result + layerTime (s .protected .result) t 100) (c .before .at .ensures)
-    ∙ ap (λ (k : ℕ). withInsulation k (wood (lamella (getD gs i 0) (getD ts i 0))))
-    (s .protected .ensures .0 gs ∙ ap (λ (k : ℕ). protectedAfter k (map wood (lamellaeOf gs ts i))) (s .before .boards-sum .ensures .0))
+    ∙ ap (λ (k : ℕ). withInsulation k (lamellaLayer (lamella (getD gs i 0) (getD ts i 0))))
+    (s .protected .ensures .0 gs ∙ ap (λ (k : ℕ). protectedAfter k (map lamellaLayer (lamellaeOf gs ts i))) (s .before .boards-sum .ensures .0))
     ∙ sym (sum-of bs gs ts i)
-    ∙ ap (λ (k : ℕ). sumAfter 0 (bs ++ map wood (lamellaeOf gs ts k))) e
+    ∙ ap (λ (k : ℕ). sumAfter 0 (bs ++ map lamellaLayer (lamellaeOf gs ts k))) e
 
 pub ei-sum-of-spec : {M : Type 1} → statement M
 ei-sum-of-spec =

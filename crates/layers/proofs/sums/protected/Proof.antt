@@ -2,7 +2,7 @@
 use Prim.Native.Nat.{ℕ, _+_, _-_, _*_, _≤_}
 use Rattle.layers.proofs.BasicTimes.{time-most}
 use Rattle.layers.proofs.Runs.{protected-more}
-use Rattle.layers.specs.Layers.{layerTime, withProtection, protection, jointOf, wood, protectedAfter}
+use Rattle.layers.specs.Layers.{layerTime, withProtection, protection, jointOf, lamellaLayer, protectedAfter}
 use Rattle.panel.specs.Lamellae.{lamella, lamellaeOf}
 use lib.ListN.{getD}
 use mathlib.Core.List.{List, map}
@@ -13,7 +13,7 @@ use Rattle.layers.proofs.sums.protected.Tie as tie
 
 abbrev Inv-loop : tie.InvT-loop
 Inv-loop s n thicknesses sum₀ i₀ sum i = (i ≤ n) × ((sum ≤ 30000 + 15000 * i) × ((gs : List ℕ) → sum ≡ protectedAfter s
-    (map wood (lamellaeOf gs thicknesses i))))
+    (map lamellaLayer (lamellaeOf gs thicknesses i))))
 
 abbrev μ-loop : tie.MeasureT-loop
 μ-loop s n thicknesses sum₀ i₀ sum i = n - i
@@ -41,7 +41,7 @@ loop-again c =
         λ gs.
             c .with-layer .ensures .0
             ∙ ap (λ (t : ℕ). l .loop .sum + layerTime (l .loop .sum) t 100) (c .before .at .ensures)
-            ∙ ap (λ (k : ℕ). withProtection k (wood (lamella (getD gs i 0) (getD ts i 0)))) (l .loop .inv .1 .1 gs)
+            ∙ ap (λ (k : ℕ). withProtection k (lamellaLayer (lamella (getD gs i 0) (getD ts i 0)))) (l .loop .inv .1 .1 gs)
             ∙ sym (protected-more s gs ts i),
       ),
     )
@@ -50,7 +50,7 @@ returns : tie.Need-returns Inv-loop μ-loop
 returns c =
     let e : c .before .loop .i ≡ c .before .before .args .n = omega arith in (
       (λ gs. c .before .loop .inv .1 .1 gs ∙ ap (λ (k : ℕ). protectedAfter (c .before .before .args .s)
-          (map wood (lamellaeOf gs (c .before .before .args .t2) k))) e),
+          (map lamellaLayer (lamellaeOf gs (c .before .before .args .t2) k))) e),
       omega arith,
     )
 

@@ -1,11 +1,11 @@
--- `card_text::lines::put_line` meets its contract: each of the three stores begins where the one before it ends.
+-- `card_text::text::put_line` meets its contract: each of the three stores begins where the one before it ends.
 -- Assumes nothing.
 use Rattle.card_text.proofs.Storing.{put-byte, put-then}
 use borrow.Author.Needs.{needs}
 use lib.ListN.{length-set}
 use mathlib.Core.Path.{_∙_}
-use Rattle.card_text.proofs.lines.put_line.Statement.{statement}
-use Rattle.card_text.proofs.lines.put_line.Tie as tie
+use Rattle.card_text.proofs.text.put_line.Statement.{statement}
+use Rattle.card_text.proofs.text.put_line.Tie as tie
 
 same-length : tie.Need-same-length
 same-length c =

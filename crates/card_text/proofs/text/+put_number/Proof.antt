@@ -1,4 +1,4 @@
--- `card_text::lines::put_number` meets its contract: the digits of n are those of its tenth part and one more. It ends because
+-- `card_text::text::put_number` meets its contract: the digits of n are those of its tenth part and one more. It ends because
 -- the number falls. Assumes nothing.
 use Prim.Native.Nat.{ℕ, _+_, _/_, _%_, _<_}
 use Rattle.card_text.specs.Text.{decimal}
@@ -10,11 +10,11 @@ use borrow.Fn.PlainCycle.{Measures, is, falls, and}
 use mathlib.Core.List.{[], _∷_, _++_}
 use mathlib.Core.Path.{_≡_, refl}
 use native.Mathlib.Omega.{arith}
-use Rattle.card_text.proofs.lines.put_number.Reads as put-number
-use Rattle.card_text.proofs.lines.put_number.Kinds as put-number-kinds
-use Rattle.card_text.proofs.lines.+put_number.Lts-put_number as put-number-lts
-use Rattle.card_text.proofs.lines.+put_number.{statement}
-use Rattle.card_text.proofs.lines.+put_number.Tie.{close}
+use Rattle.card_text.proofs.text.put_number.Reads as put-number
+use Rattle.card_text.proofs.text.put_number.Kinds as put-number-kinds
+use Rattle.card_text.proofs.text.+put_number.Lts-put_number as put-number-lts
+use Rattle.card_text.proofs.text.+put_number.{statement}
+use Rattle.card_text.proofs.text.+put_number.Tie.{close}
 
 abbrev μ-put-number : Measures 1 put-number-kinds.ps ℕ
 μ-put-number κs a = a .1 .1 .0

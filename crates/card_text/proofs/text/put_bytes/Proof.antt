@@ -1,4 +1,4 @@
--- `card_text::lines::put_bytes` meets its contract: after i turns the first i bytes are stored. Assumes nothing.
+-- `card_text::text::put_bytes` meets its contract: after i turns the first i bytes are stored. Assumes nothing.
 use Prim.Native.Nat.{_+_, _-_, _≤_}
 use Rattle.card_text.specs.Stores.{Put}
 use Rattle.card_text.proofs.Storing.{put-byte, put-then}
@@ -11,8 +11,8 @@ use mathlib.Core.Path.{_≡_, refl, _∙_}
 use native.Mathlib.Nat.{add-assoc}
 use native.Mathlib.Numerals.{add-one}
 use native.Mathlib.Omega.{arith}
-use Rattle.card_text.proofs.lines.put_bytes.Statement.{statement}
-use Rattle.card_text.proofs.lines.put_bytes.Tie as tie
+use Rattle.card_text.proofs.text.put_bytes.Statement.{statement}
+use Rattle.card_text.proofs.text.put_bytes.Tie as tie
 
 abbrev Inv-loop : tie.InvT-loop
 Inv-loop out₀ at head i₀ out i = (i ≤ length head) × ((length out ≡ length out₀) × Put out₀ at (take i head) i (at + i) out)

@@ -2,7 +2,7 @@
 ghost use Prim.Native.Nat.{_+_, _*_, _≤_};
 ghost use mathlib.Core.List.{_∷_};
 ghost use lib.ListN.{length};
-ghost use Rattle.card_text.specs.Text.{decimal, fields, line};
+ghost use Rattle.card_text.specs.Text.{decimal, textFields, textLine};
 ghost use Rattle.card_text.specs.Stores.{Put};
 
 fn put_number(out: &mut [u8], at: usize, n: u32) -> usize
@@ -29,7 +29,7 @@ fn put_field(out: &mut [u8], at: usize, n: u32) -> usize
 
 fn put_fields(out: &mut [u8], at: usize, numbers: &[u32]) -> usize
     requires { ⌜ at + 11 * length (now numbers) ≤ length (now out) ⌝ }
-    ensures { λ r. ⌜ Put (now (out .entry)) at (fields (now (numbers .entry))) (11 * length (now (numbers .entry))) r (now (out .exit)) ⌝ }
+    ensures { λ r. ⌜ Put (now (out .entry)) at (textFields (now (numbers .entry))) (11 * length (now (numbers .entry))) r (now (out .exit)) ⌝ }
 {
     let mut end = at;
     let mut i = 0;
@@ -57,7 +57,7 @@ pub fn put_bytes(out: &mut [u8], at: usize, bytes: &[u8]) -> usize
 // must fit into the bytes from `at` on.
 pub fn put_line(out: &mut [u8], at: usize, head: &[u8], numbers: &[u32]) -> usize
     requires { ⌜ at + length (now head) + 11 * length (now numbers) + 1 ≤ length (now out) ⌝ }
-    ensures { λ r. ⌜ Put (now (out .entry)) at (line (now (head .entry)) (now (numbers .entry))) (length (now (head .entry)) + 11 * length (now (numbers .entry)) + 1) r (now (out .exit)) ⌝ }
+    ensures { λ r. ⌜ Put (now (out .entry)) at (textLine (now (head .entry)) (now (numbers .entry))) (length (now (head .entry)) + 11 * length (now (numbers .entry)) + 1) r (now (out .exit)) ⌝ }
 {
     let first = put_bytes(out, at, head);
     let end = put_fields(out, first, numbers);

@@ -1,4 +1,4 @@
--- `card_text::lines::put_field` meets its contract: the number begins where the blank ends. Assumes nothing.
+-- `card_text::text::put_field` meets its contract: the number begins where the blank ends. Assumes nothing.
 use Rattle.card_text.proofs.Digits.{decimal-length}
 use Rattle.card_text.proofs.Storing.{put-byte, put-then}
 use borrow.Author.Needs.{needs}
@@ -6,8 +6,8 @@ use denote.Ref.{now}
 use lib.ListN.{length-set}
 use mathlib.Core.Path.{_∙_}
 use native.Mathlib.Omega.{arith}
-use Rattle.card_text.proofs.lines.put_field.Statement.{statement}
-use Rattle.card_text.proofs.lines.put_field.Tie as tie
+use Rattle.card_text.proofs.text.put_field.Statement.{statement}
+use Rattle.card_text.proofs.text.put_field.Tie as tie
 
 put-number-requires : tie.Need-put-number-requires
 put-number-requires c κs = simp length-set (omega (arith, decimal-length (c .before .before .args .n)))

@@ -1,7 +1,7 @@
--- `card_text::lines::put_fields` meets its contract: after i turns the first i fields are stored. Assumes nothing.
+-- `card_text::text::put_fields` meets its contract: after i turns the first i fields are stored. Assumes nothing.
 use Prim.Native.Nat.{_+_, _-_, _*_, _≤_, _<_}
 use Rattle.card_text.specs.Stores.{Put}
-use Rattle.card_text.specs.Text.{fields}
+use Rattle.card_text.specs.Text.{textFields}
 use Rattle.card_text.proofs.Lengths.{fields-take}
 use Rattle.card_text.proofs.Storing.{put-then}
 use borrow.Author.Needs.{needs}
@@ -10,18 +10,18 @@ use lib.ListN.{length, take}
 use lib.Seq.{take-length}
 use mathlib.Core.Path.{_≡_, refl, _∙_}
 use native.Mathlib.Omega.{arith}
-use Rattle.card_text.proofs.lines.put_fields.Statement.{statement}
-use Rattle.card_text.proofs.lines.put_fields.Tie as tie
+use Rattle.card_text.proofs.text.put_fields.Statement.{statement}
+use Rattle.card_text.proofs.text.put_fields.Tie as tie
 
 abbrev Inv-loop : tie.InvT-loop
 Inv-loop out₀ at numbers end₀ i₀ out end i = (i ≤ length numbers) × ((length out ≡ length out₀) × Put out₀ at
-    (fields (take i numbers)) (11 * i) end out)
+    (textFields (take i numbers)) (11 * i) end out)
 
 abbrev μ-loop : tie.MeasureT-loop
 μ-loop out₀ at numbers end₀ i₀ out end i = length numbers - i
 
 loop-holds : tie.Need-loop-holds Inv-loop μ-loop
-unfolding fields
+unfolding textFields
 loop-holds c = (omega arith, (refl, record { stored = refl; ends = omega arith; within = omega arith }))
 
 loop-again : tie.Need-loop-again Inv-loop μ-loop
