@@ -7,7 +7,7 @@ use Rattle.panel.specs.declared.Panel.{Panel}
 use Rattle.panel.specs.Lamellae.{lamellae, thickness}
 use Rattle.panel.proofs.Used.{thickness-more, thickness-prefix}
 use Rattle.limits.specs.Refusals.{panelRefusal}
-use Rattle.limits.proofs.Accepted.{lamella-within}
+use Rattle.limits.proofs.Accepted.{accepted-keeps, lamella-keeps}
 use Rattle.charring.specs.declared.Phase.{Phase}
 use Rattle.charring.specs.declared.Phase.the-variants.{Untouched}
 use Rattle.charring.specs.Fires.{startOf, backFace}
@@ -20,13 +20,12 @@ use Rattle.charring.proofs.PhaseLaws.{Throughout, phaseRate, untouched-
 -- an accepted panel has some thickness
 pub thick : (p : Panel) → panelRefusal p ≡ 0 → 0 < thickness (lamellae p)
 thick p e =
-    let f = fire-fits p e in
-    let least = lamella-within p e 0 (f .least) in
+    let k = accepted-keeps p e in
     omega (
       arith,
-      least .0,
+      lamella-keeps p k 0 (k .countLeast) .least,
       thickness-more (p .directions) (p .thicknesses) 0,
-      thickness-prefix (p .directions) (p .thicknesses) 1 (p .count) (f .least),
+      thickness-prefix (p .directions) (p .thicknesses) 1 (p .count) (k .countLeast),
     )
 
 -- an accepted panel is untouched before t_ch, and only there

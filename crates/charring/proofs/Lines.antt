@@ -18,7 +18,8 @@ use Rattle.panel.specs.declared.Panel.{Panel}
 use Rattle.panel.specs.Lamellae.{Lamella, lamella, lamellae, lamellaeOf, thickness}
 use Rattle.limits.specs.Causes.{badLamella, some}
 use Rattle.limits.specs.Refusals.{panelRefusal}
-use Rattle.limits.proofs.Accepted.{accepted-cause}
+use Rattle.limits.specs.Keeps.{LamellaeKeep}
+use Rattle.limits.proofs.Accepted.{accepted-keeps}
 use Rattle.charring.specs.Fires.{tenth, backFace, linesFrom, bondLines, lineEnd}
 use Rattle.charring.specs.Charring.{IsBondLine}
 use Rattle.charring.proofs.AcceptedPhases.{thick}
@@ -118,29 +119,21 @@ pub data Deeper : ℕ → List ℕ → ℕ → Type 0 where
 
 -- line 11: no lamella is below 10.0 mm
 deeper-from :
-    (top : ℕ) (ls : List Lamella) (back : ℕ) → some badLamella ls ≡ false → 0 < thickness ls → back ≡ top + tenth * thickness ls
+    (top : ℕ) (ls : List Lamella) (back : ℕ) → LamellaeKeep ls → 0 < thickness ls → back ≡ top + tenth * thickness ls
     → Deeper top (linesFrom top ls) back
-unfolding linesFrom thickness some
-deeper-from top [] back e h same = absurd (let z : ⊥ = omega arith in z)
-deeper-from top (l ∷ []) back e h same = let k : top < back = omega arith in face k
-deeper-from top (l ∷ m ∷ ls) back e h same =
-    let (a, b) = or-none (badLamella l) (some badLamella (m ∷ ls)) e in
-    let (c, d) = or-none (badLamella m) (some badLamella ls) b in
-    let k : top < top + tenth * l .thickness = omega (arith, least l a) in
-    next k (deeper-from (top + tenth * l .thickness) (m ∷ ls) back b (omega (arith, least m c)) (omega arith))
-  where
-    least : (l : Lamella) → badLamella l ≡ false → 100 ≤ l .thickness
-    least l e = in-range 100 600 (l .thickness) (or-none (ltb 1 (l .direction)) (outside 100 600 (l .thickness)) e .1) .0
+unfolding linesFrom thickness
+deeper-from top [] back k h same = absurd (let z : ⊥ = omega arith in z)
+deeper-from top (l ∷ []) back k h same = let i : top < back = omega arith in face i
+deeper-from top (l ∷ m ∷ ls) back k h same =
+    let i : top < top + tenth * l .thickness = omega (arith, k .0 .least) in
+    next i (deeper-from (top + tenth * l .thickness) (m ∷ ls) back (k .1) (omega (arith, k .1 .0 .least)) (omega arith))
 
 pub lines-deeper : (p : Panel) → panelRefusal p ≡ 0 → Deeper 0 (bondLines p) (backFace p)
 unfolding bondLines
 lines-deeper p e = go (eqb (p .bond) 1)
   where
     go : (b : Bool) → Deeper 0 (elim b as (λ _. List ℕ) [ true ↦ linesFrom 0 (lamellae p) | false ↦ [] ]) (backFace p)
-    go true =
-        deeper-from 0 (lamellae p) (backFace p)
-        (or-none (some badLamella (lamellae p)) (ltb 4000 (thickness (lamellae p))) (accepted-cause p e 11) .0) (thick p e)
-        (omega arith)
+    go true = deeper-from 0 (lamellae p) (backFace p) (accepted-keeps p e .each) (thick p e) (omega arith)
     go false = let k : 0 < backFace p = omega (arith, thick p e) in face k
 
 pub deeper-back : {top back : ℕ} {ls : List ℕ} → Deeper top ls back → top < back

@@ -1,4 +1,3 @@
-pub mod Accepted
 pub mod BasicTimes
 pub mod LateTimes
 pub mod Runs

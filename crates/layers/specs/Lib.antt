@@ -1,3 +1,2 @@
 pub mod Layers
-pub mod Fits
 pub mod Answers

@@ -13,7 +13,7 @@ ghost use Prim.Native.Nat.{ℕ, _+_, _≤_};
 ghost use Rattle.panel.specs.Boards.{boardsOf, wholeJoint};
 ghost use Rattle.panel.specs.Lamellae.{lamellaeOf};
 ghost use Rattle.layers.specs.Layers.{boardLayer, lamellaLayer, layerTime, withProtection, protectedAfter, eiSum};
-ghost use Rattle.layers.specs.Fits.{BoardFits, CladdingFits, LamellaeFit, LayersFit};
+ghost use Rattle.limits.specs.Keeps.{BoardKeeps, CladdingKeeps, ThicknessesKeep, Keeps};
 
 // With one more layer, by its basic time and its joint coefficient.
 fn with_layer(s: u32, t: u32, joint: u8) -> u32
@@ -24,21 +24,21 @@ fn with_layer(s: u32, t: u32, joint: u8) -> u32
 }
 
 fn with_board(s: u32, b: Board) -> u32
-    requires { ⌜ (s ≤ 180000) × BoardFits b ⌝ }
+    requires { ⌜ (s ≤ 180000) × BoardKeeps b ⌝ }
     ensures { λ r. ⌜ (r ≡ withProtection s (boardLayer b)) × (r ≤ s + 15000) ⌝ }
 {
     with_layer(s, gypsum_protection::at(b.thickness), b.joint)
 }
 
 fn with_two(outer: Board, inner: Board) -> u32
-    requires { ⌜ BoardFits outer × BoardFits inner ⌝ }
+    requires { ⌜ BoardKeeps outer × BoardKeeps inner ⌝ }
     ensures { λ r. ⌜ (r ≡ protectedAfter 0 (boardLayer outer ∷ boardLayer inner ∷ [])) × (r ≤ 30000) ⌝ }
 {
     with_board(with_board(0, outer), inner)
 }
 
 fn boards_sum(c: Cladding) -> u32
-    requires { ⌜ CladdingFits c ⌝ }
+    requires { ⌜ CladdingKeeps c ⌝ }
     ensures { λ r. ⌜ (r ≡ protectedAfter 0 (map boardLayer (boardsOf c))) × (r ≤ 30000) ⌝ }
 {
     match c {
@@ -50,7 +50,7 @@ fn boards_sum(c: Cladding) -> u32
 
 // After the first n lamellae, all by protection. Their directions do not matter.
 fn protected(s: u32, thicknesses: [u16; 9], n: usize) -> u32
-    requires { ⌜ (s ≤ 30000) × ((n ≤ 8) × LamellaeFit thicknesses n) ⌝ }
+    requires { ⌜ (s ≤ 30000) × ((n ≤ 8) × ThicknessesKeep thicknesses n) ⌝ }
     ensures { λ r. ⌜ ((gs : List ℕ) → r ≡ protectedAfter s (map lamellaLayer (lamellaeOf gs thicknesses n))) × (r ≤ 180000) ⌝ }
 {
     let mut sum = s;
@@ -64,7 +64,7 @@ fn protected(s: u32, thicknesses: [u16; 9], n: usize) -> u32
 
 // No open call: the panel must keep the limits of lines 8, 10 and 11.
 pub(crate) fn ei_sum_of(p: Panel) -> u32
-    requires { ⌜ LayersFit p ⌝ }
+    requires { ⌜ Keeps p ⌝ }
     ensures { λ r. ⌜ r ≡ eiSum p ⌝ }
 {
     let c = p.cladding;

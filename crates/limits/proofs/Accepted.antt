@@ -1,30 +1,31 @@
 -- What holds of a panel that no line turns back, as inequalities: the limits that later calls work within.
 use Prim.Native.Nat.{ℕ, zero, suc, _+_, _*_, _<_, _≤_}
-use mathlib.Core.Path.{_≡_, sym, ap, _∙_}
-use mathlib.Core.List.{List}
-use mathlib.Core.Bool.{Bool, true, false}
+use mathlib.Core.Path.{_≡_, refl, sym, ap, subst, _∙_}
+use mathlib.Core.List.{List, [], _∷_}
+use mathlib.Core.Bool.{Bool, true, false, not, _&&_, _||_}
 use native.Mathlib.Omega.{arith}
-use native.Mathlib.Decide.{decLt}
-use borrow.Author.Tests.{ltb-false, not-false}
-use lib.ListN.{getD}
+use borrow.Author.Tests.{ltb-false, not-false, eqb-true}
+use lib.ListN.{length, getD}
 use lib.Dec.{ltb, eqb}
 use mathlib.Core.Logic.{_↔_}
 use native.Mathlib.Nat.{le-trans, le-add-right}
 use Rattle.numbers.specs.Choice.{pick, outside}
-use Rattle.numbers.proofs.Booleans.{or-none, in-range}
+use Rattle.numbers.proofs.Booleans.{not-both, or-none, in-range}
 use Rattle.panel.specs.declared.Board.{Board}
 use Rattle.panel.specs.declared.Cladding.{Cladding}
 use Rattle.panel.specs.declared.Cladding.the-variants.{Unclad, One, Two}
 use Rattle.panel.specs.declared.Panel.{Panel}
 use Rattle.panel.specs.Lamellae.{Lamella, lamella, lamellae, lamellaeOf, thickness}
-use Rattle.panel.specs.Boards.{gapLoss, innerGain}
+use Rattle.panel.specs.Ranges.{woodThinnest, woodThickest, thinnestBoard, thickestBoard}
+use Rattle.panel.specs.Boards.{typeF, wholeJoint, gapLoss, innerGain, charringStart}
+use Rattle.panel.proofs.Used.{length-lamellaeOf, getD-lamellaeOf}
 use Rattle.section.specs.Tests.{SectionFits, depthPasses}
 use Rattle.limits.specs.declared.ByteFaults.{ByteFaults}
 use Rattle.limits.specs.Lines.{refusal, NoneFits, causeOf}
 use Rattle.limits.specs.Causes.{badLoad, badBoard, badBoards, badCount, badLamella, badLamellae, some}
 use Rattle.limits.specs.Refusals.{noBytes, tableLines, panelLines, panelRefusal}
+use Rattle.limits.specs.Keeps.{BoardKeeps, CladdingKeeps, LamellaKeeps, LamellaeKeep, ThicknessesKeep, Keeps}
 use Rattle.limits.proofs.FirstLine.{First, accepted-iff, refusal-first, cause-none}
-use Rattle.limits.proofs.Tests.{some-more}
 
 -- what lines 5, 10 and 11 leave: the section test fits its numbers
 pub section-fits : (p : Panel) → badLoad p ≡ false → badCount (p .count) ≡ false → badLamellae p ≡ false → SectionFits p
@@ -54,8 +55,63 @@ pub accepted-cause : (p : Panel) → panelRefusal p ≡ 0 → (n : ℕ) → caus
 unfolding panelRefusal
 accepted-cause p e = cause-none (panelLines p) tt e
 
+-- what each line leaves
+board-keeps : (b : Board) → badBoard b ≡ false → BoardKeeps b
+board-keeps b e =
+    let both = or-none (outside (thinnestBoard (b .kind)) (thickestBoard (b .kind)) (b .thickness)) (outside 1 wholeJoint (b .joint)) e in
+    let thick = in-range (thinnestBoard (b .kind)) (thickestBoard (b .kind)) (b .thickness) (both .0) in
+    let joint = in-range 1 wholeJoint (b .joint) (both .1) in
+    record { least = thick .0; most = thick .1; jointLeast = joint .0; jointMost = joint .1 }
+
+cladding-keeps : (c : Cladding) → badBoards c ≡ false → CladdingKeeps c
+cladding-keeps Unclad e = tt
+cladding-keeps (One b) e = board-keeps b e
+cladding-keeps (Two outer inner) e =
+    let both = or-none (badBoard outer) (badBoard inner) e in
+    (board-keeps outer (both .0), board-keeps inner (both .1))
+
+given-keeps :
+    (f : Bool) (start given : ℕ) → ((f && outside start 360000 given) || (not f && not (eqb given 0))) ≡ false
+    → (f ≡ true → (start ≤ given) × (given ≤ 360000)) × (f ≡ false → given ≡ 0)
+given-keeps true start given e =
+    (λ _. in-range start 360000 given (or-none (outside start 360000 given) false e .0), λ f. absurd (not-both true refl f))
+given-keeps false start given e =
+    (λ f. absurd (not-both false f refl), λ _. eqb-true given 0 (not-false (eqb given 0) e))
+
+lamellae-keep : (ls : List Lamella) → some badLamella ls ≡ false → LamellaeKeep ls
+unfolding some
+lamellae-keep [] e = tt
+lamellae-keep (l ∷ ls) e =
+    let both = or-none (badLamella l) (some badLamella ls) e in
+    let one = or-none (ltb 1 (l .direction)) (outside woodThinnest woodThickest (l .thickness)) (both .0) in
+    let thick = in-range woodThinnest woodThickest (l .thickness) (one .1) in
+    (record { direction = ltb-false 1 (l .direction) (one .0); least = thick .0; most = thick .1 }, lamellae-keep ls (both .1))
+
+-- an accepted panel keeps every limit
+pub accepted-keeps : (p : Panel) → panelRefusal p ≡ 0 → Keeps p
+accepted-keeps p e =
+    let none = accepted-cause p e in
+    let three = or-none (ltb 1 (p .bond)) (ltb 1 (p .gap)) (none 3) in
+    let rate = in-range 50 100 (p .rate) (none 4) in
+    let load = or-none (outside 1 400 (p .strength)) (ltb 1000000 (p .moment)) (none 5) in
+    let time = given-keeps (typeF (p .cladding)) (charringStart (p .gap) (p .cladding)) (p .«failure_time») (none 9) in
+    let thick = or-none (some badLamella (lamellae p)) (ltb 4000 (thickness (lamellae p))) (none 11) in
+    record {
+      bond = ltb-false 1 (p .bond) (three .0);
+      gap = ltb-false 1 (p .gap) (three .1);
+      rateLeast = rate .0;
+      rateMost = rate .1;
+      strengthLeast = in-range 1 400 (p .strength) (load .0) .0;
+      countLeast = in-range 1 9 (p .count) (none 10) .0;
+      section = section-fits p (none 5) (none 10) (none 11);
+      boards = cladding-keeps (p .cladding) (none 8);
+      given = time .0;
+      notGiven = time .1;
+      each = lamellae-keep (lamellae p) (thick .0);
+    }
+
 pub accepted-fits : (p : Panel) → panelRefusal p ≡ 0 → SectionFits p
-accepted-fits p e = section-fits p (accepted-cause p e 5) (accepted-cause p e 10) (accepted-cause p e 11)
+accepted-fits p e = accepted-keeps p e .section
 
 -- an accepted panel passes at depth 0
 pub accepted-passes : (p : Panel) → panelRefusal p ≡ 0 → depthPasses p 0 ≡ true
@@ -70,38 +126,27 @@ table-accepted f p e =
     let same : noBytes ≡ f = sym (λ i. record { length = none 1 i; version = none 2 i; «board_count» = none 6 i; «lamella_count» = ten .0 i }) in
     ap (λ (g : ByteFaults). refusal (tableLines g p)) same ∙ e
 
--- The boards and lamellae of an accepted panel
+-- Lamellae by their place
 
-some-none :
-    (test : Lamella → Bool) (gs ts : List ℕ) (n : ℕ) → some test (lamellaeOf gs ts n) ≡ false
-    → (i : ℕ) → i < n → test (lamella (getD gs i 0) (getD ts i 0)) ≡ false
-unfolding lamellaeOf
-some-none test gs ts zero e i h = absurd (let z : ⊥ = omega arith in z)
-some-none test gs ts (suc n) e i h = go (decLt i n) (λ (f : some test (lamellaeOf gs ts n) ≡ false) (k : i < n). some-none test gs ts n f i k)
+keep-at :
+    (gs ts : List ℕ) (n : ℕ) → LamellaeKeep (lamellaeOf gs ts n) → (i : ℕ) → i < n → LamellaKeeps (lamella (getD gs i 0) (getD ts i 0))
+keep-at gs ts n h i k =
+    let inside : i < length (lamellaeOf gs ts n) = omega (arith, length-lamellaeOf gs ts n) in
+    subst LamellaKeeps (getD-lamellaeOf gs ts n i k) (keep-getD (lamellaeOf gs ts n) h i inside)
   where
-    last : Lamella
-    last = lamella (getD gs n 0) (getD ts n 0)
+    keep-getD : (ls : List Lamella) → LamellaeKeep ls → (i : ℕ) → i < length ls → LamellaKeeps (getD ls i (lamella 0 0))
+    keep-getD [] h i k = absurd (let z : ⊥ = omega arith in z)
+    keep-getD (l ∷ ls) h zero k = h .0
+    keep-getD (l ∷ ls) h (suc i) k = keep-getD ls (h .1) i (omega arith)
 
-    both : (some test (lamellaeOf gs ts n) ≡ false) × (test last ≡ false)
-    both = or-none (some test (lamellaeOf gs ts n)) (test last) (sym (some-more test (lamellaeOf gs ts n) last) ∙ e)
+pub lamella-keeps :
+    (p : Panel) → Keeps p → (i : ℕ) → i < p .count → LamellaKeeps (lamella (getD (p .directions) i 0) (getD (p .thicknesses) i 0))
+lamella-keeps p k i h = keep-at (p .directions) (p .thicknesses) (p .count) (k .each) i h
 
-    go :
-        Dec (i < n) → (some test (lamellaeOf gs ts n) ≡ false → i < n → test (lamella (getD gs i 0) (getD ts i 0)) ≡ false)
-        → test (lamella (getD gs i 0) (getD ts i 0)) ≡ false
-    go (yes k) before = before (both .0) k
-    go (no k) before =
-        let same : i ≡ n = omega arith in
-        rw same (both .1)
-
--- each lamella has 10.0 to 60.0 mm
-pub lamella-within :
-    (p : Panel) → panelRefusal p ≡ 0 → (i : ℕ) → i < p .count
-    → (100 ≤ getD (p .thicknesses) i 0) × (getD (p .thicknesses) i 0 ≤ 600)
-lamella-within p e i h =
-    let bad = or-none (some badLamella (lamellae p)) (ltb 4000 (thickness (lamellae p))) (accepted-cause p e 11) in
-    let x = some-none badLamella (p .directions) (p .thicknesses) (p .count) (bad .0) i h in
-    in-range 100 600 (getD (p .thicknesses) i 0)
-    (or-none (ltb 1 (getD (p .directions) i 0)) (outside 100 600 (getD (p .thicknesses) i 0)) x .1)
+pub thicknesses-keep : (p : Panel) → Keeps p → ThicknessesKeep (p .thicknesses) (p .count)
+thicknesses-keep p k i h =
+    let l = lamella-keeps p k i h in
+    (l .least, l .most)
 
 -- The start of charring
 
@@ -118,18 +163,13 @@ loss-most gap = go (eqb gap 1)
     go true = omega arith
     go false = omega arith
 
-board-least : (b : Board) → badBoard b ≡ false → 90 ≤ b .thickness
-board-least b e =
-    in-range 90 250 (b .thickness) (or-none (outside 90 250 (b .thickness)) (outside 1 100 (b .joint)) e .0) .0
-
-start-of : (gap : ℕ) (c : Cladding) → badBoards c ≡ false → StartWhole gap c
-start-of gap Unclad e = tt
-start-of gap (One b) e = omega (arith, loss-most gap, board-least b e)
-start-of gap (Two outer inner) e =
-    let first : 90 ≤ outer .thickness = board-least outer (or-none (badBoard outer) (badBoard inner) e .0) in
-    let loss : gapLoss gap ≤ 280 * outer .thickness = omega (arith, loss-most gap) in
+start-of : (gap : ℕ) (c : Cladding) → CladdingKeeps c → StartWhole gap c
+start-of gap Unclad k = tt
+start-of gap (One b) k = omega (arith, loss-most gap, k .least)
+start-of gap (Two outer inner) k =
+    let loss : gapLoss gap ≤ 280 * outer .thickness = omega (arith, loss-most gap, k .0 .least) in
     le-trans loss (le-add-right (280 * outer .thickness) (innerGain inner * inner .thickness))
 
 -- t_ch of an accepted panel is never cut off at 0
 pub start-whole : (p : Panel) → panelRefusal p ≡ 0 → StartWhole (p .gap) (p .cladding)
-start-whole p e = start-of (p .gap) (p .cladding) (accepted-cause p e 8)
+start-whole p e = start-of (p .gap) (p .cladding) (accepted-keeps p e .boards)

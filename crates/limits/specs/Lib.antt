@@ -1,4 +1,5 @@
 pub mod Lines
 pub mod Causes
 pub mod Refusals
+pub mod Keeps
 pub mod Answers

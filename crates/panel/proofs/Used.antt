@@ -15,6 +15,12 @@ pub length-lamellaeOf : (gs ts : List ℕ) (n : ℕ) → length (lamellaeOf gs t
 unfolding lamellaeOf
 length-lamellaeOf gs ts n = length-firsts (λ (i : ℕ). lamella (getD gs i 0) (getD ts i 0)) n
 
+-- lamella i comes from place i
+pub getD-lamellaeOf :
+    (gs ts : List ℕ) (n i : ℕ) → i < n → getD (lamellaeOf gs ts n) i (lamella 0 0) ≡ lamella (getD gs i 0) (getD ts i 0)
+unfolding lamellaeOf
+getD-lamellaeOf gs ts n i h = getD-firsts (λ (i : ℕ). lamella (getD gs i 0) (getD ts i 0)) n i (lamella 0 0) h
+
 -- panels that differ at most in their unused places have the same lamellae
 pub same-lamellae : (p q : Panel) → SameUsed p q → lamellae p ≡ lamellae q
 unfolding lamellaeOf

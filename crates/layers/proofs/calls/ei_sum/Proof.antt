@@ -1,5 +1,5 @@
 -- `layers::calls::ei_sum` meets its contract: the layers of a panel that no line turns back. Assumes nothing.
-use Rattle.layers.proofs.Accepted.{layers-fit}
+use Rattle.limits.proofs.Accepted.{accepted-keeps}
 use Rattle.layers.specs.Answers.{eiSumAnswer}
 use Rattle.layers.specs.declared.LayerAnswer.the-variants.{Value, Refused}
 use Rattle.limits.proofs.FirstLine.{turned-back, let-through}
@@ -19,5 +19,5 @@ returns-2 c = let-through Refused (c .before .before .panel-refusal .ensures) (c
 pub ei-sum-spec : {M : Type 1} → statement M
 ei-sum-spec =
     tie.close
-    (tie.spec (λ c κs. search needs) returns (λ c κs. layers-fit (c .before .before .args .p)
+    (tie.spec (λ c κs. search needs) returns (λ c κs. accepted-keeps (c .before .before .args .p)
     (sym (c .before .panel-refusal .ensures) ∙ c .if1 .left)) returns-2)

@@ -1,6 +1,6 @@
 -- `layers::minutes::ei_minute_of` meets its contract: the layers of an accepted panel have basic times. Assumes nothing.
 use Prim.Native.Nat.{ℕ, _/_, min}
-use Rattle.layers.proofs.Accepted.{layers-fit}
+use Rattle.limits.proofs.Accepted.{accepted-keeps}
 use borrow.Author.Needs.{needs}
 use mathlib.Core.Path.{ap, _∙_}
 use Rattle.layers.proofs.minutes.ei_minute_of.Statement.{statement}
@@ -12,4 +12,4 @@ returns c =
 
 pub ei-minute-of-spec : {M : Type 1} → statement M
 ei-minute-of-spec =
-    tie.close (tie.spec (λ c κs. layers-fit (c .args .p) (c .pre)) (λ c κs. search needs) returns)
+    tie.close (tie.spec (λ c κs. accepted-keeps (c .args .p) (c .pre)) (λ c κs. search needs) returns)

@@ -1,5 +1,5 @@
 -- `layers::sums::boards_sum` meets its contract: each arm is one case of `boardsOf`. Assumes nothing.
-use Rattle.layers.specs.Fits.{CladdingFits}
+use Rattle.limits.specs.Keeps.{CladdingKeeps}
 use Rattle.layers.specs.Layers.{protectedAfter}
 use borrow.Author.Needs.{needs}
 use mathlib.Core.Path.{subst}
@@ -8,10 +8,10 @@ use Rattle.layers.proofs.sums.boards_sum.Statement.{statement}
 use Rattle.layers.proofs.sums.boards_sum.Tie as tie
 
 with-board-requires : tie.Need-with-board-requires
-with-board-requires c κs = (omega arith, subst CladdingFits (c .before .c .given .1) (c .before .before .before .pre))
+with-board-requires c κs = (omega arith, subst CladdingKeeps (c .before .c .given .1) (c .before .before .before .pre))
 
 with-two-requires : tie.Need-with-two-requires
-with-two-requires c κs = subst CladdingFits (c .before .c2 .given .1) (c .before .before .before .pre)
+with-two-requires c κs = subst CladdingKeeps (c .before .c2 .given .1) (c .before .before .before .pre)
 
 returns : tie.Need-returns
 unfolding protectedAfter

@@ -3,6 +3,7 @@ use Prim.Native.Nat.{ℕ, _+_, _-_}
 use Rattle.layers.proofs.BasicTimes.{time-most}
 use Rattle.layers.proofs.Runs.{sum-of}
 use Rattle.layers.specs.Layers.{layerTime, withInsulation, insulation, jointOf, boardLayer, lamellaLayer, sumAfter, eiSum, protectedAfter}
+use Rattle.limits.proofs.Accepted.{thicknesses-keep}
 use Rattle.panel.specs.Boards.{boardsOf}
 use Rattle.panel.specs.Lamellae.{lamella, lamellaeOf}
 use borrow.Author.Needs.{needs}
@@ -14,12 +15,12 @@ use Rattle.layers.proofs.sums.ei_sum_of.Statement.{statement}
 use Rattle.layers.proofs.sums.ei_sum_of.Tie as tie
 
 protected-requires : tie.Need-protected-requires
-protected-requires c κs = (c .boards-sum .ensures .1, (omega arith, λ i h. c .before .before .before .pre .lamellae i (omega arith)))
+protected-requires c κs = (c .boards-sum .ensures .1, (omega arith, λ i h. thicknesses-keep (c .before .before .before .args .p) (c .before .before .before .pre) i (omega arith)))
 
 at-requires : tie.Need-at-requires
 at-requires c κs =
     let r = c .before .before .before .before in
-    r .pre .lamellae (r .args .p .count - 1) (omega arith)
+    thicknesses-keep (r .args .p) (r .pre) (r .args .p .count - 1) (omega arith)
 
 with-layer-requires : tie.Need-with-layer-requires
 with-layer-requires c κs = (c .before .protected .ensures .1, (time-most _ _ _ _ _ (c .at .ensures) (omega arith), omega arith))

@@ -9,7 +9,7 @@ use Rattle.layers.proofs.sums.with_board.Statement.{statement}
 use Rattle.layers.proofs.sums.with_board.Tie as tie
 
 with-layer-requires : tie.Need-with-layer-requires
-with-layer-requires c κs = (omega arith, (time-most _ _ _ _ _ (c .at .ensures) (omega arith), c .before .pre .1 .coefficient))
+with-layer-requires c κs = (omega arith, (time-most _ _ _ _ _ (c .at .ensures) (omega arith), c .before .pre .1 .jointMost))
 
 returns : tie.Need-returns
 unfolding withProtection protection jointOf
