@@ -1,5 +1,5 @@
 -- The bond lines of a panel: where they are, and that in an accepted panel each is deeper than the one before and short of the back face.
-use Prim.Native.Nat.{ℕ, zero, suc, _+_, _*_, _<_, _≤_}
+use Prim.Native.Nat.{ℕ, zero, suc, _+_, _*_, _<_}
 use mathlib.Core.Path.{_≡_, refl, ap, _∙_, sym, subst}
 use mathlib.Core.List.{List, [], _∷_, _++_, List·Memᴰ}
 use mathlib.Core.List.{List·Memᴰ·head, List·Memᴰ·append-cases, List·Memᴰ·cases-cons, List·Memᴰ·not-nil, List·Memᴰ·eq-of-singleton}
@@ -8,15 +8,12 @@ use mathlib.Core.Logic.{_↔_, _⊎_, inl, inr}
 use mathlib.Core.Bool.{Bool, true, false}
 use native.Mathlib.Omega.{arith}
 use native.Mathlib.Decide.{decLt}
-use lib.Dec.{eqb, ltb}
+use lib.Dec.{eqb}
 use lib.ListN.{getD}
 use borrow.Author.Tests.{eqb-true, eq-eqb}
-use Rattle.numbers.specs.Choice.{outside}
 use Rattle.numbers.specs.Firsts.{firsts}
-use Rattle.numbers.proofs.Booleans.{or-none, in-range}
 use Rattle.panel.specs.declared.Panel.{Panel}
 use Rattle.panel.specs.Lamellae.{Lamella, lamella, lamellae, lamellaeOf, thickness}
-use Rattle.limits.specs.Causes.{badLamella, some}
 use Rattle.limits.specs.Refusals.{panelRefusal}
 use Rattle.limits.specs.Keeps.{LamellaeKeep}
 use Rattle.limits.proofs.Accepted.{accepted-keeps}

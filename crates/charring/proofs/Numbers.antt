@@ -1,5 +1,5 @@
 -- What is the same at every minute keeps its bounds.
-use Prim.Native.Nat.{ℕ, _-_, _*_, _≤_}
+use Prim.Native.Nat.{_-_, _≤_}
 use native.Mathlib.Omega.{arith}
 use Rattle.panel.specs.declared.Panel.{Panel}
 use Rattle.panel.specs.Timber.{rateOf}

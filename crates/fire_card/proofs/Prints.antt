@@ -1,12 +1,11 @@
 -- What is printed: for an accepted record, for a refused one, and for an input longer than any record.
 use Prim.Native.Nat.{ℕ, _≤_, _<_}
-use mathlib.Core.Path.{_≡_, refl, sym, ap, _∙_}
+use mathlib.Core.Path.{_≡_, sym, ap, _∙_}
 use mathlib.Core.List.{List}
 use native.Mathlib.Omega.{arith}
 use native.Mathlib.Decide.{decLe}
 use lib.ListN.{length, take, length-take}
 use lib.Seq.{take-all}
-use Rattle.limits.specs.Lines.{answer}
 use Rattle.limits.proofs.FirstLine.{refused, answered}
 use Rattle.record.specs.Layouts.{panelOf}
 use Rattle.record.specs.Refusals.{recordRefusal}

@@ -15,7 +15,6 @@ use Rattle.limits.specs.Lines.{Line, refusal, numbered, answer}
 use Rattle.limits.proofs.FirstLine.{turned-above, open-above, open-both, turned-back}
 use Rattle.card_text.specs.Stores.{Put}
 use Rattle.card_text.proofs.Storing.{put-over}
-use Rattle.fire_card.specs.declared.CardAnswer.{CardAnswer}
 use Rattle.fire_card.specs.declared.CardAnswer.the-variants.{Written, Refused}
 use Rattle.fire_card.specs.Answers.{shortLine, over, textRefusal, textAnswer, textAfter}
 

@@ -1,8 +1,8 @@
 -- R: its test says that every time up to a time passes, what it gives is 01's load minute, and a search may stop at the last time that
 -- passes the test. The arguments hold for any test of depths and any depths that do not fall with time.
 use Prim.Native.Nat.{ℕ, zero, suc, _+_, _-_, _*_, _≤_, _<_}
-use mathlib.Core.Path.{_≡_, refl, sym, ap, subst, _∙_}
-use mathlib.Core.Bool.{Bool, true, false, true≢false, _&&_}
+use mathlib.Core.Path.{_≡_, refl, sym, ap, _∙_}
+use mathlib.Core.Bool.{Bool, true, false, _&&_}
 use mathlib.Core.Logic.{_↔_, ⊎-elim}
 use native.Mathlib.Omega.{arith}
 use native.Mathlib.Decide.{decLe}
@@ -16,7 +16,7 @@ use Rattle.limits.proofs.Accepted.{accepted-passes}
 use Rattle.charring.specs.Depths.{tenthsAt}
 use Rattle.charring.proofs.DepthBounds.{tenths-zero}
 use Rattle.charring.proofs.DepthLaws.{tenths-later}
-use Rattle.load.specs.Failure.{EveryTenthPasses, TimePasses, PassesUpTo, IsWholePart, IsLoadMinute}
+use Rattle.load.specs.Failure.{EveryTenthPasses, TimePasses, PassesUpTo, IsLoadMinute}
 use Rattle.load.specs.LoadMinute.{everyFrom, timeTest, wholePart, loadMinute}
 
 -- Depths

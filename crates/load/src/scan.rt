@@ -6,7 +6,7 @@ use panel::Panel;
 use section::test::depth_passes;
 ghost use mathlib.Core.Path.{_≡_};
 ghost use mathlib.Core.Bool.{true};
-ghost use Prim.Native.Nat.{_-_, _≤_};
+ghost use Prim.Native.Nat.{_-_};
 ghost use Rattle.section.specs.Tests.{depthPasses, SectionFits};
 ghost use Rattle.charring.specs.Fits.{FireFits};
 ghost use Rattle.load.specs.LoadMinute.{everyFrom, loadMinute};

@@ -5,7 +5,7 @@ use Rattle.charring.specs.Fires.{firstEnd}
 use Rattle.charring.specs.Fits.{FireOf}
 use Rattle.charring.specs.declared.Fire.{Fire}
 use borrow.Author.Needs.{needs}
-use mathlib.Core.Path.{refl, ap, ap₂, _∙_}
+use mathlib.Core.Path.{ap, ap₂, _∙_}
 use native.Mathlib.Omega.{arith}
 use Rattle.charring.proofs.fires.fire_of.Statement.{statement}
 use Rattle.charring.proofs.fires.fire_of.Tie as tie

@@ -9,7 +9,7 @@ use Rattle.load.specs.Answers.{reserveOf, reserveAnswer}
 use Rattle.load.specs.LoadMinute.{loadMinute}
 use Rattle.load.specs.declared.ReserveAnswer.the-variants.{By, Refused}
 use borrow.Author.Needs.{needs}
-use mathlib.Core.Path.{_≡_, sym, ap, subst, _∙_}
+use mathlib.Core.Path.{sym, ap, subst, _∙_}
 use mir.Facts.{toZ-ofZ}
 use mir.Syntax.{w32}
 use mir.Val.{SFits}
