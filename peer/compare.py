@@ -277,7 +277,7 @@ def arguments():
     words.add_argument("--records", type=needs.count, default=5000)
     words.add_argument("--seed", type=int, default=1)
     words.add_argument("--bin", action="store_true")
-    words.add_argument("words", metavar="WORD", nargs="*")
+    words.add_argument("words", metavar="WORD", nargs="*", default=[])
     given = words.parse_intermixed_args()
     known = list(programs.CALLS) + ["test_panels"] * (not given.bin)
     for word in given.words:
