@@ -4,7 +4,6 @@ What a card costs, in instructions counted by callgrind: the proved library (tar
 bench/card.c, the same steps in plain C at -O3. Both print the same cards for N random panels first. Of an input the cost is what two more
 passes over it take beyond one, so that start-up does not count. Ends with status 1 where the cards differ.
 """
-import argparse
 import os
 import random
 import re
@@ -14,6 +13,7 @@ import sys
 HERE = os.path.dirname(os.path.abspath(__file__))
 sys.path.insert(0, os.path.join(HERE, "..", "peer"))
 
+import needs
 import peer
 import random_records
 from peer import Panel
@@ -21,23 +21,20 @@ from peer import Panel
 
 def write_tables(path):
     """The basic times that a card needs, by their rules."""
-    tables = (("GYPSUM_PROTECTION", peer.gypsum_protection, 90, 250), ("WOOD_PROTECTION", peer.wood_protection, 100, 600),
-              ("WOOD_INSULATION", peer.wood_insulation, 100, 600))
     with open(path, "w") as file:
         file.write("#include <stdint.h>\n")
-        for name, rule, low, high in tables:
-            times = ", ".join(str(rule(h)) for h in range(low, high + 1))
-            file.write(f"static const uint16_t {name}[] = {{{times}}};\n")
+        for table in ("gypsum_protection", "wood_protection", "wood_insulation"):
+            file.write(f"static const uint16_t {table.upper()}[] = {{{', '.join(map(str, peer.entries(table)))}}};\n")
 
 
-def build(repository, folder, compiler):
+def build(archive, folder, compiler):
     """The program with each of the two cards."""
     write_tables(os.path.join(folder, "tables.h"))
     words = [compiler, "-O3", "-Wall", "-Wextra", f"-I{HERE}/../c", f"-I{folder}", f"{HERE}/bench.c"]
     programs = {}
-    for name, card in (("Rattle", os.path.join(repository, "target/staticlib/libcard_c.a")), ("C", f"{HERE}/card.c")):
+    for name, card in (("Rattle", archive), ("C", f"{HERE}/card.c")):
         programs[name] = os.path.join(folder, f"bench_{name}")
-        subprocess.run(words + [card, "-o", programs[name]], check=True)
+        needs.run(words + [card, "-o", programs[name]])
     return programs
 
 
@@ -77,15 +74,17 @@ def plate(total, count):
 
 
 def main():
-    words = argparse.ArgumentParser(description=__doc__, formatter_class=argparse.RawDescriptionHelpFormatter)
-    words.add_argument("repository", nargs="?", default=os.path.join(HERE, ".."))
-    words.add_argument("--panels", type=int, default=500)
+    words = needs.arguments(__doc__, os.path.join(HERE, ".."))
+    words.add_argument("--panels", type=needs.count, default=500)
     words.add_argument("--seed", type=int, default=1)
     words.add_argument("--cc", default="cc")
     given = words.parse_args()
+    archive = os.path.join(given.repository, "target/staticlib/libcard_c.a")
+    needs.made(archive, "rt staticlib card_c")
+    needs.installed(given.cc, "valgrind")
     folder = os.path.join(given.repository, "target/bench")
     os.makedirs(folder, exist_ok=True)
-    programs = build(given.repository, folder, given.cc)
+    programs = build(archive, folder, given.cc)
 
     kinds = {word: [kind(random.Random(f"{given.seed} {i}")) for i in range(given.panels)]
              for word, kind in (("any panels", random_records.random_panel), ("failing at any minute", random_records.failing_about))}

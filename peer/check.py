@@ -1,7 +1,7 @@
 """check.py [N]: holds peer.py to the figures of document 01 and of the notes on its readings, and R to its definition on
 the panels of test_cards and N random ones."""
+import argparse
 import random
-import sys
 from fractions import Fraction
 
 import peer
@@ -86,7 +86,10 @@ def check_load_minutes(count):
 
 
 if __name__ == "__main__":
+    words = argparse.ArgumentParser(description=__doc__)
+    words.add_argument("count", metavar="N", type=int, nargs="?", default=400)
+    count = words.parse_args().count
     check_document()
     check_readings()
-    check_load_minutes(int(sys.argv[1]) if len(sys.argv) > 1 else 400)
+    check_load_minutes(count)
     print("the peer agrees")

@@ -1,13 +1,12 @@
 """compare.py REPOSITORY [--records N] [--seed S] [--bin] [WORD..]
 
-Runs the test programs on random records and compares what they print with peer.py. WORD is a call of test_calls or test_cards, as `read`,
-or `test_panels`; none: all of them. Nothing has to be proved: a program is run by `rt try`, on the interpreter and compiled three ways, in
-a scratch copy of the repository. --bin: runs target/bin/test_calls or test_cards instead. The input goes in pieces: a program reads 64 KiB
-at most, and the interpreter stops after ten million steps. test_panels reads no input: its `main` is written anew, with random panels,
-unused places full (not with --bin).
+Runs the test programs on random records and compares what they print with peer.py. WORD is a call of theirs, as `read`, or `test_panels`;
+none: all of them. Nothing has to be proved: a program is run by `rt try`, on the interpreter and compiled three ways, in a scratch copy of
+the repository. --bin: runs the proved program, as target/bin/test_records, instead. The input goes in pieces: a program reads 64 KiB at
+most, and the interpreter stops after ten million steps. test_panels reads no input: its `main` is written anew, with random panels, unused
+places full (not with --bin).
 Ends with status 1 at a disagreement, and prints its line.
 """
-import argparse
 import os
 import random
 import re
@@ -17,6 +16,7 @@ import sys
 import tempfile
 
 import make_cases
+import needs
 import peer
 import programs
 import random_records
@@ -224,9 +224,12 @@ def first_difference(said, expected):
     return next((i for i in range(min(len(a), len(b))) if a[i] != b[i]), min(len(a), len(b)))
 
 
+def bin_of(repository, name):
+    return os.path.join(repository, "target/bin", name)
+
+
 def run_bin(repository, name, given, expected):
-    run = [os.path.join(repository, "target/bin", name)]
-    said = subprocess.run(run, input=given, capture_output=True, text=True, errors="replace").stdout
+    said = subprocess.run([bin_of(repository, name)], input=given, capture_output=True, text=True, errors="replace").stdout
     at = first_difference(said, expected)
     return None if at is None else (at, (said.split("\n") + [""])[at])
 
@@ -269,17 +272,27 @@ def compare(run, place, call, seed, count):
     return True
 
 
-def main():
-    words = argparse.ArgumentParser(description=__doc__, formatter_class=argparse.RawDescriptionHelpFormatter)
-    words.add_argument("repository")
-    words.add_argument("--records", type=int, default=5000)
+def arguments():
+    words = needs.arguments(__doc__)
+    words.add_argument("--records", type=needs.count, default=5000)
     words.add_argument("--seed", type=int, default=1)
     words.add_argument("--bin", action="store_true")
-    words.add_argument("words", nargs="*")
+    words.add_argument("words", metavar="WORD", nargs="*", default=[])
     given = words.parse_intermixed_args()
-    names = given.words or list(programs.CALLS) + ["test_panels"] * (not given.bin)
+    known = list(programs.CALLS) + ["test_panels"] * (not given.bin)
+    for word in given.words:
+        if word not in known:
+            words.error(f"{word} is none of {' '.join(known)}")
+    return given, given.words or known
+
+
+def main():
+    given, names = arguments()
     if given.bin:
+        for program in dict.fromkeys(map(programs.program_of, names)):
+            needs.made(bin_of(given.repository, program), f"rt check {' '.join(programs.PROGRAMS)}")
         sys.exit(not all([compare(run_bin, given.repository, name, given.seed, given.records) for name in names]))
+    needs.installed("rt")
     with tempfile.TemporaryDirectory() as scratch:
         shutil.copy(os.path.join(given.repository, "crates.txt"), scratch)
         shutil.copytree(os.path.join(given.repository, "crates"), os.path.join(scratch, "crates"))

@@ -6,15 +6,14 @@ at any minute, at once or after a recovery, at a limit, damaged, and with one by
 are all lengths from none to 128 bytes. The space is the longest card's, the very card's, or one byte less.
 Ends with status 1 at a disagreement, and prints the record.
 """
-import argparse
 import ctypes
 import multiprocessing
 import os
 import random
-import subprocess
 import sys
 from collections import Counter
 
+import needs
 import peer
 import random_records
 
@@ -92,17 +91,18 @@ def compared(number):
 
 
 def main():
-    words = argparse.ArgumentParser(description=__doc__, formatter_class=argparse.RawDescriptionHelpFormatter)
-    words.add_argument("repository")
-    words.add_argument("--records", type=int, default=5000)
+    words = needs.arguments(__doc__)
+    words.add_argument("--records", type=needs.count, default=5000)
     words.add_argument("--seed", type=int, default=1)
-    words.add_argument("--jobs", type=int, default=1)
+    words.add_argument("--jobs", type=needs.count, default=1)
     given = words.parse_args()
+    archive = os.path.join(given.repository, "target/staticlib/libcard_c.a")
+    needs.made(archive, "rt staticlib card_c")
+    needs.installed("cc")
     folder = os.path.join(given.repository, "target/c")
     os.makedirs(folder, exist_ok=True)
     path = os.path.abspath(os.path.join(folder, "libcard_c.so"))
-    archive = os.path.join(given.repository, "target/staticlib/libcard_c.a")
-    subprocess.run(["cc", "-shared", "-o", path, "-Wl,--whole-archive", archive, "-Wl,--no-whole-archive"], check=True)
+    needs.run(["cc", "-shared", "-o", path, "-Wl,--whole-archive", archive, "-Wl,--no-whole-archive"])
     refusals = Counter()
     with multiprocessing.Pool(given.jobs, start, (path, given.seed)) as pool:
         for number, (refusal, wrong) in enumerate(pool.imap(compared, range(given.records), 50)):

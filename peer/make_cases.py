@@ -3,8 +3,8 @@
 What a program must print is worked out by peer.py, never by the program itself.
 """
 import os
-import sys
 
+import needs
 import peer
 import programs
 from peer import Board, Panel
@@ -569,7 +569,7 @@ def table_cases():
         yield space, b"", f"a blank panel into {space}"
 
 
-# ---------------------------------------------------------------- test_cards
+# ---------------------------------------------------------------- Load minutes and cards
 
 # 400 mm along that chars 180 mm in 360 minutes: its effective depth is 187.0 mm then.
 LASTING = THICK._replace(rate=50, strength=240, moment=0)
@@ -781,9 +781,9 @@ def built_lines():
 # ---------------------------------------------------------------- Files
 
 # the word of the call: its cases
-CASES = {"read": record_cases, "write": write_cases, "section": section_cases, "build": build_cases,
-         "time": time_cases, "sum": sum_cases, "grade": grade_cases, "rei": rei_cases,
+CASES = {"read": record_cases, "write": write_cases, "build": build_cases, "section": section_cases,
          "char": char_cases, "table": table_cases,
+         "time": time_cases, "sum": sum_cases, "grade": grade_cases, "rei": rei_cases,
          "card": card_cases, "refusal": refusal_cases, "load": panel_record_cases, "reserve": reserve_cases,
          "loadgrade": grade_panel_cases, "eigrade": grade_panel_cases, "reigrade": grade_panel_cases}
 
@@ -811,7 +811,8 @@ def called_lines(program):
     return given, expected
 
 
-def main(repository):
+def main():
+    repository = needs.arguments(__doc__).parse_args().repository
     for program in programs.PROGRAMS:
         given, expected = called_lines(program)
         store(repository, program, "stdin", given.encode())
@@ -827,4 +828,4 @@ def main(repository):
 
 
 if __name__ == "__main__":
-    main(sys.argv[1])
+    main()

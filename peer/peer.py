@@ -460,20 +460,38 @@ def basic_time(unit, reference, power, root, h):
     return largest(lambda v: v ** root * reference ** power <= unit ** root * h ** power)
 
 
+# the table: its unit, reference, power and root, and its first and last thickness
+TABLES = {
+    "gypsum_protection": (3_000, 150, 6, 5, 90, 250),
+    "gypsum_insulation": (2_400, 150, 7, 5, 90, 250),
+    "wood_protection": (3_000, 200, 11, 10, 100, 600),
+    "wood_insulation": (1_900, 200, 7, 5, 100, 600),
+}
+
+
+def entry(table, h):
+    return basic_time(*TABLES[table][:4], h)
+
+
+def entries(table):
+    low, high = TABLES[table][4:]
+    return [entry(table, h) for h in range(low, high + 1)]
+
+
 def gypsum_protection(h):
-    return basic_time(3_000, 150, 6, 5, h)
+    return entry("gypsum_protection", h)
 
 
 def gypsum_insulation(h):
-    return basic_time(2_400, 150, 7, 5, h)
+    return entry("gypsum_insulation", h)
 
 
 def wood_protection(h):
-    return basic_time(3_000, 200, 11, 10, h)
+    return entry("wood_protection", h)
 
 
 def wood_insulation(h):
-    return basic_time(1_900, 200, 7, 5, h)
+    return entry("wood_insulation", h)
 
 
 def board_time(rule, h):

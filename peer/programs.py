@@ -1,5 +1,5 @@
-"""What test_calls and test_cards read and must print, by peer.py: for a case the line of `stdin` and the line of `stdout`, after the word
-of its call. Below the line of a written card or refusal stand its own lines, as they are in the lent space."""
+"""What the test programs over test_run read and must print, by peer.py: for a case the line of `stdin` and the line of `stdout`, after the
+word of its call. Below the line of a written card or refusal stand its own lines, as they are in the lent space."""
 import peer
 
 SPACE = 64     # bytes of the writers' array
@@ -204,17 +204,21 @@ def panel_grade_answer(grade_of):
 
 # the program: the word of the call: (what follows it in stdin, what follows it in stdout)
 PROGRAMS = {
-    "test_calls": {
+    "test_records": {
         "read": (read_line, read_answer),
         "write": (write_line, write_answer),
-        "section": (section_line, section_answer),
         "build": (build_line, build_answer),
+        "section": (section_line, section_answer),
+    },
+    "test_charring": {
+        "char": (char_line, char_answer),
+        "table": (table_line, table_answer),
+    },
+    "test_layers": {
         "time": (time_line, time_answer),
         "sum": (sum_line, sum_answer),
         "grade": (grade_line, grade_answer),
         "rei": (rei_line, rei_answer),
-        "char": (char_line, char_answer),
-        "table": (table_line, table_answer),
     },
     "test_cards": {
         "card": (card_line, card_answer),

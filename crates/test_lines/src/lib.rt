@@ -2,4 +2,3 @@
 // The contracts say that every access is in bounds. What is printed is held to the stored output, not proved.
 pub mod input;
 pub mod output;
-pub mod records;
