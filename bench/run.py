@@ -2,7 +2,7 @@
 
 What a card costs, in instructions counted by callgrind: the proved library (target/staticlib/libcard_c.a, by `rt staticlib card_c`) beside
 bench/card.c, the same steps in plain C at -O3. Both print the same cards for N random panels first. Of an input the cost is what two more
-passes over it take beyond one, so that start-up does not count. Ends with status 1 where the cards differ.
+passes over it take beyond one, so that start-up does not count. Ends with status 1 where the cards differ or something is missing.
 """
 import os
 import random

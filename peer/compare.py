@@ -5,7 +5,7 @@ none: all of them. Nothing has to be proved: a program is run by `rt try`, on th
 the repository. --bin: runs the proved program, as target/bin/test_records, instead. The input goes in pieces: a program reads 64 KiB at
 most, and the interpreter stops after ten million steps. test_panels reads no input: its `main` is written anew, with random panels, unused
 places full (not with --bin).
-Ends with status 1 at a disagreement, and prints its line.
+Ends with status 1 at a disagreement, and prints its line; and where something is missing, and says what.
 """
 import os
 import random

@@ -4,7 +4,7 @@ Calls the proved functions as C does (target/staticlib/libcard_c.a, by `rt stati
 compares with peer.py: the card, the number answered, and every byte of the lent space. The records are in turn within the limits, failing
 at any minute, at once or after a recovery, at a limit, damaged, and with one byte changed, each place of the record in its turn; the first
 are all lengths from none to 128 bytes. The space is the longest card's, the very card's, or one byte less.
-Ends with status 1 at a disagreement, and prints the record.
+Ends with status 1 at a disagreement, and prints the record; and where something is missing, and says what.
 """
 import ctypes
 import multiprocessing
