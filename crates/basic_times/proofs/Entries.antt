@@ -9,7 +9,8 @@ use borrow.Author.Tests.{leb-true, le-leb, not-true}
 use lib.ListN.{length, getD}
 use lib.Dec.{T, leb, leb→le}
 use Rattle.numbers.proofs.Booleans.{T-left, T-right, T-true}
-use Rattle.numbers.proofs.LargestKept.{IsLargest, largest-is, largest-by-next}
+use Rattle.numbers.specs.Largest.{IsLargest}
+use Rattle.numbers.proofs.LargestKept.{largest-is, largest-by-next}
 use Rattle.basic_times.specs.Rules.{keeps, basicTime}
 
 -- Smaller numbers keep to the rule too

@@ -8,7 +8,8 @@ use native.Mathlib.Nat.{zero-mul, pow-succ', mul-le-mul-left, mul-le-mul-right, 
 use borrow.Author.Tests.{le-leb, leb-false, lt-leb}
 use lib.Dec.{T}
 use Rattle.numbers.proofs.Booleans.{T-false}
-use Rattle.numbers.proofs.LargestKept.{IsLargest, largest-found, largest-within}
+use Rattle.numbers.specs.Largest.{IsLargest}
+use Rattle.numbers.proofs.LargestKept.{largest-found, largest-within}
 use Rattle.basic_times.specs.Rules.{keeps, basicTime, gypsumProtection, gypsumInsulation, woodProtection, woodInsulation}
 
 -- 0 keeps to every rule

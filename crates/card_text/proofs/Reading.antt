@@ -9,18 +9,8 @@ use borrow.Author.Tests.{le-ltb, ne-eqb, eq-eqb}
 use lib.Dec.{eqb}
 use Rattle.numbers.specs.Choice.{outside}
 use Rattle.numbers.proofs.Booleans.{none-or, not-both}
-use Rattle.card_text.specs.Text.{digits, decimal, textFields, textLine, after, numberFrom, firstNumber}
+use Rattle.card_text.specs.Text.{digits, decimal, textFields, textLine, after, numberFrom, firstNumber, free, noDigit}
 use Rattle.card_text.proofs.Digits.{by-size, tenth-below}
-
--- no byte of the text is `mark`
-abbrev pub free : ℕ → List ℕ → Bool
-free mark [] = true
-free mark (c ∷ cs) = elim (eqb c mark) [ true ↦ false | false ↦ free mark cs ]
-
--- the text does not begin with a digit
-abbrev pub noDigit : List ℕ → Bool
-noDigit [] = true
-noDigit (c ∷ cs) = outside 48 57 c
 
 -- a digit is a byte from 48 to 57
 digit-inside : (d : ℕ) → d < 10 → outside 48 57 (48 + d) ≡ false

@@ -1,6 +1,6 @@
 -- Document 01, the printed card: numbers and lines as text, and how they are read back.
 use Prim.Native.Nat.{ℕ, zero, suc, _+_, _-_, _*_, _/_, _%_}
-use mathlib.Core.Bool.{true, false}
+use mathlib.Core.Bool.{Bool, true, false}
 use mathlib.Core.List.{List, [], _∷_, _++_}
 use lib.Dec.{ltb, eqb}
 use Rattle.numbers.specs.Choice.{outside}
@@ -38,3 +38,13 @@ numberFrom v (c ∷ cs) = elim (outside 48 57 c) [ true ↦ v | false ↦ number
 -- the number in the first field of a line
 abbrev pub firstNumber : List ℕ → ℕ
 firstNumber text = numberFrom 0 (after 32 text)
+
+-- no byte of the text is `mark`
+abbrev pub free : ℕ → List ℕ → Bool
+free mark [] = true
+free mark (c ∷ cs) = elim (eqb c mark) [ true ↦ false | false ↦ free mark cs ]
+
+-- the text does not begin with a digit
+abbrev pub noDigit : List ℕ → Bool
+noDigit [] = true
+noDigit (c ∷ cs) = outside 48 57 c

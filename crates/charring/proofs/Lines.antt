@@ -18,7 +18,7 @@ use Rattle.limits.specs.Refusals.{panelRefusal}
 use Rattle.limits.specs.Keeps.{LamellaeKeep}
 use Rattle.limits.proofs.Accepted.{accepted-keeps}
 use Rattle.charring.specs.Fires.{tenth, backFace, linesFrom, bondLines, lineEnd}
-use Rattle.charring.specs.Charring.{IsBondLine}
+use Rattle.charring.specs.Charring.{IsBondLine, Deeper, face, next}
 use Rattle.charring.proofs.AcceptedPhases.{thick}
 
 -- Where they are
@@ -108,11 +108,6 @@ bond-line-iff p l = (there (eqb (p .bond) 1) refl, back)
         (record { place = i .place; inner = i .inner; deep = i .deep }))
 
 -- How deep they are
-
--- from `top` on each line is deeper than the one before, and the back face is deeper than all
-pub data Deeper : ℕ → List ℕ → ℕ → Type 0 where
-  face : {top back : ℕ} → top < back → Deeper top [] back
-  next : {top l back : ℕ} {ls : List ℕ} → top < l → Deeper l ls back → Deeper top (l ∷ ls) back
 
 -- line 11: no lamella is below 10.0 mm
 deeper-from :

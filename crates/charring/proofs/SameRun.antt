@@ -13,7 +13,8 @@ use Rattle.charring.proofs.WayLaws.{Exact, AllExact, none, both, exact-
 use Rattle.charring.proofs.Ways.{to-line, past-line}
 use Rattle.charring.proofs.PhaseOfDepth.{inRun, run-fast, run-settled, phaseOfDepth, deep-within, deep-rest}
 use Rattle.charring.proofs.GivesWay.{exact-named}
-use Rattle.charring.proofs.Lines.{Deeper, next, deeper-back, deeper-line, line-end-deeper}
+use Rattle.charring.specs.Charring.{Deeper, next}
+use Rattle.charring.proofs.Lines.{deeper-back, deeper-line, line-end-deeper}
 
 -- a stretch to a line or to the back face
 to : (from end mark : ℕ) → Stretch

@@ -14,7 +14,7 @@ use Rattle.charring.specs.Fires.{startOf, failureOf, plainRate, slowRate
 use Rattle.charring.specs.Stages.{stretches, way, charred}
 use Rattle.charring.specs.Depths.{underAt, afterAt, charAt}
 use Rattle.charring.specs.Phases.{phaseAt}
-use Rattle.charring.specs.Charring.{Charring, IsFirstEnd, FastUpTo, NoLineWithin, NoLineUpTo, NoLineAt}
+use Rattle.charring.specs.Charring.{Charring, IsFirstEnd, FastUpTo, NoLineWithin, NoLineUpTo, NoLineAt, Deeper}
 use Rattle.charring.proofs.Accepted.{fire-fits}
 use Rattle.charring.proofs.AcceptedPhases.{thick}
 use Rattle.charring.proofs.DepthLaws.{char-ramp, char-no-less}
@@ -26,7 +26,7 @@ use Rattle.charring.proofs.PhaseLaws.{char-parts, after-none, under-par
 use Rattle.charring.proofs.PhaseLaws.{no-char, untouched-before, base-rises, base-step, way-step}
 use Rattle.charring.proofs.PhaseOfDepth.{inRun, run-fast, run-settled, phaseOfDepth, phase-of-depth}
 use Rattle.charring.proofs.Lasting.{lasting, persists}
-use Rattle.charring.proofs.Lines.{Deeper, lines-deeper, deeper-back, deeper-after}
+use Rattle.charring.proofs.Lines.{lines-deeper, deeper-back, deeper-after}
 use Rattle.charring.proofs.SameRun.{SameRun, same-run, still-fast, fast-over, still-settled, way-starts, way-line}
 use Rattle.charring.proofs.Growth.{depthOn, fast-to, settled-to}
 

@@ -3,7 +3,7 @@
 -- Depths at n/q are in half picometres, times q; marks of depth (lines, ends, the back face) in picometres.
 use Prim.Native.Nat.{ℕ, _+_, _-_, _*_, _≤_, _<_, min}
 use mathlib.Core.Path.{_≡_}
-use mathlib.Core.List.{List, _∷_, _++_, List·Memᴰ}
+use mathlib.Core.List.{List, [], _∷_, _++_, List·Memᴰ}
 use mathlib.Core.Bool.{true, false}
 use Rattle.panel.specs.declared.Panel.{Panel}
 use Rattle.charring.specs.declared.Phase.{Phase}
@@ -33,6 +33,11 @@ pub record IsBondLine (p : Panel) (l : ℕ) : Type 0 where
   pub falls : p .bond ≡ 1
   pub inner : place + 1 < p .count
   pub deep : l ≡ tenth * thickness (lamellaeOf (p .directions) (p .thicknesses) (place + 1))
+
+-- from `top` on each line is deeper than the one before, and the back face is deeper than all
+pub data Deeper : ℕ → List ℕ → ℕ → Type 0 where
+  face : {top back : ℕ} → top < back → Deeper top [] back
+  next : {top l back : ℕ} {ls : List ℕ} → top < l → Deeper l ls back → Deeper top (l ∷ ls) back
 
 -- a depth d at q: no bond line lies past a and short of d
 abbrev pub NoLineWithin : Panel → ℕ → ℕ → ℕ → Type 0

@@ -6,9 +6,9 @@ use native.Mathlib.Omega.{arith}
 use native.Mathlib.Numerals.{add-one}
 use native.Mathlib.Nat.{le-trans, mul-le-mul, mul-le-mul-left, mul-le-mul-right}
 use borrow.Author.Tests.{leb-true, le-leb, lt-leb}
-use Rattle.numbers.specs.Largest.{largest}
+use Rattle.numbers.specs.Largest.{largest, IsLargest}
 use Rattle.numbers.proofs.Booleans.{not-both}
-use Rattle.numbers.proofs.LargestKept.{IsLargest, largest-is, largest-by-next, largest-found}
+use Rattle.numbers.proofs.LargestKept.{largest-is, largest-by-next, largest-found}
 use Rattle.layers.specs.Layers.{lateKeeps, positioned}
 
 -- smaller numbers keep the test too

@@ -21,11 +21,11 @@ use Rattle.panel.specs.Boards.{typeF, wholeJoint, gapLoss, innerGain, charringS
 use Rattle.panel.proofs.Used.{length-lamellaeOf, getD-lamellaeOf}
 use Rattle.section.specs.Tests.{SectionFits, depthPasses}
 use Rattle.limits.specs.declared.ByteFaults.{ByteFaults}
-use Rattle.limits.specs.Lines.{refusal, NoneFits, causeOf}
+use Rattle.limits.specs.Lines.{refusal, NoneFits, causeOf, First}
 use Rattle.limits.specs.Causes.{badLoad, badBoard, badBoards, badCount, badLamella, badLamellae, some}
 use Rattle.limits.specs.Refusals.{noBytes, tableLines, panelLines, panelRefusal}
-use Rattle.limits.specs.Keeps.{BoardKeeps, CladdingKeeps, LamellaKeeps, LamellaeKeep, ThicknessesKeep, Keeps}
-use Rattle.limits.proofs.FirstLine.{First, accepted-iff, refusal-first, cause-none}
+use Rattle.limits.specs.Keeps.{BoardKeeps, CladdingKeeps, LamellaKeeps, LamellaeKeep, ThicknessesKeep, Keeps, StartWhole}
+use Rattle.limits.proofs.FirstLine.{accepted-iff, refusal-first, cause-none}
 
 -- what lines 5, 10 and 11 leave: the section test fits its numbers
 pub section-fits : (p : Panel) → badLoad p ≡ false → badCount (p .count) ≡ false → badLamellae p ≡ false → SectionFits p
@@ -149,12 +149,6 @@ thicknesses-keep p k i h =
     (l .least, l .most)
 
 -- The start of charring
-
--- the difference in t_ch
-abbrev pub StartWhole : ℕ → Cladding → Type 0
-StartWhole gap Unclad = Unit
-StartWhole gap (One b) = gapLoss gap ≤ 280 * b .thickness
-StartWhole gap (Two outer inner) = gapLoss gap ≤ 280 * outer .thickness + innerGain inner * inner .thickness
 
 loss-most : (gap : ℕ) → gapLoss gap ≤ 23000
 loss-most gap = go (eqb gap 1)

@@ -8,7 +8,7 @@ use native.Mathlib.Omega.{arith}
 use lib.Dec.{T, eqb, ltb, ltb→lt}
 use Rattle.numbers.specs.Choice.{pick}
 use Rattle.numbers.proofs.Booleans.{T-left, T-right}
-use Rattle.limits.specs.Lines.{Line, refusal, causeOf, NoneFits, numbered, answer}
+use Rattle.limits.specs.Lines.{Line, refusal, causeOf, NoneFits, numbered, answer, First}
 
 pick-none : (c : Bool) (n below : ℕ) → T (ltb 0 n) → pick c n below ≡ 0 → (c ≡ false) × (below ≡ 0)
 pick-none true n below t e = absurd (let h : 0 < n = ltb→lt 0 n t in let z : ⊥ = omega arith in z)
@@ -41,16 +41,7 @@ none-cause n (l ∷ ls) h = go (eqb (l .number) n) (none-cause n ls (h .1))
 pub cause-none : (ls : List Line) → T (numbered ls) → refusal ls ≡ 0 → (n : ℕ) → causeOf n ls ≡ false
 cause-none ls t e n = none-cause n ls (first-none ls t e)
 
--- a refusal is a line of the table that fits, and none before it does
-pub record First (ls : List Line) (n : ℕ) : Type 0 where
-  pub before : List Line
-  pub this : Line
-  pub after : List Line
-  pub split : ls ≡ before ++ (this ∷ after)
-  pub none : NoneFits before
-  pub fits : this .fits ≡ true
-  pub number : this .number ≡ n
-
+-- a refusal is the first line that fits
 pub refusal-first : (ls : List Line) → (refusal ls ≡ 0 → ⊥) → First ls (refusal ls)
 refusal-first [] ne = absurd (ne refl)
 refusal-first (l ∷ ls) ne = go (l .fits) refl (refusal-first ls) ne

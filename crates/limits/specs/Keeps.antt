@@ -1,6 +1,6 @@
 -- What lines 3 to 11 leave of a panel that none of them turns back, as inequalities: the one record of limits that the other crates work
 -- within. What their inner functions ask for are parts of it.
-use Prim.Native.Nat.{ℕ, _<_, _≤_}
+use Prim.Native.Nat.{ℕ, _+_, _*_, _<_, _≤_}
 use mathlib.Core.Path.{_≡_}
 use mathlib.Core.Bool.{true, false}
 use mathlib.Core.List.{List, [], _∷_}
@@ -10,7 +10,7 @@ use Rattle.panel.specs.declared.Cladding.{Cladding}
 use Rattle.panel.specs.declared.Cladding.the-variants.{Unclad, One, Two}
 use Rattle.panel.specs.declared.Panel.{Panel}
 use Rattle.panel.specs.Ranges.{woodThinnest, woodThickest, thinnestBoard, thickestBoard}
-use Rattle.panel.specs.Boards.{typeF, wholeJoint, charringStart}
+use Rattle.panel.specs.Boards.{typeF, wholeJoint, gapLoss, innerGain, charringStart}
 use Rattle.panel.specs.Lamellae.{Lamella, lamellae}
 use Rattle.section.specs.Tests.{SectionFits}
 
@@ -58,3 +58,9 @@ pub record Keeps (p : Panel) : Type 0 where
   pub notGiven : typeF (p .cladding) ≡ false → p .«failure_time» ≡ 0
   -- line 11
   pub each : LamellaeKeep (lamellae p)
+
+-- the difference in t_ch is not cut off at 0
+abbrev pub StartWhole : ℕ → Cladding → Type 0
+StartWhole gap Unclad = Unit
+StartWhole gap (One b) = gapLoss gap ≤ 280 * b .thickness
+StartWhole gap (Two outer inner) = gapLoss gap ≤ 280 * outer .thickness + innerGain inner * inner .thickness

@@ -1,6 +1,6 @@
 -- Document 01, "Where a record is turned back": a table of lines, "Checked from top to bottom".
 use Prim.Native.Nat.{ℕ, zero, suc}
-use mathlib.Core.List.{List, [], _∷_}
+use mathlib.Core.List.{List, [], _∷_, _++_}
 use mathlib.Core.Bool.{Bool, true, false, cond, _&&_}
 use mathlib.Core.Path.{_≡_}
 use lib.Dec.{eqb, ltb}
@@ -37,6 +37,16 @@ below n (l ∷ ls) = cond (eqb (l .number) n) ls (below n ls)
 abbrev pub NoneFits : List Line → Type 0
 NoneFits [] = Unit
 NoneFits (l ∷ ls) = (l .fits ≡ false) × NoneFits ls
+
+-- a refusal is a line of the table that fits, and none before it does
+pub record First (ls : List Line) (n : ℕ) : Type 0 where
+  pub before : List Line
+  pub this : Line
+  pub after : List Line
+  pub split : ls ≡ before ++ (this ∷ after)
+  pub none : NoneFits before
+  pub fits : this .fits ≡ true
+  pub number : this .number ≡ n
 
 -- every line has a number other than 0, so that no line is taken for none
 abbrev pub numbered : List Line → Bool

@@ -4,13 +4,8 @@ use mathlib.Core.Path.{_≡_, refl}
 use mathlib.Core.Bool.{Bool, true, false}
 use native.Mathlib.Omega.{arith}
 use native.Mathlib.Decide.{decLt}
-use Rattle.numbers.specs.Largest.{largest}
+use Rattle.numbers.specs.Largest.{largest, IsLargest}
 use Rattle.numbers.proofs.Booleans.{not-both}
-
--- v is the largest number that keeps the test, whatever the bound
-pub record IsLargest (test : ℕ → Bool) (v : ℕ) : Type 0 where
-  pub kept : test v ≡ true
-  pub beyond : (m : ℕ) → v < m → test m ≡ false
 
 -- a number that keeps the test is found where nothing between it and the bound does
 pub largest-last :

@@ -12,10 +12,10 @@ use Rattle.numbers.specs.Choice.{outside}
 use Rattle.numbers.specs.Bytes.{number}
 use Rattle.panel.specs.Lamellae.{Lamella, lamellae, lamellaeOf, nine}
 use Rattle.panel.proofs.Used.{lamellaeOf-nine}
-use Rattle.limits.specs.Lines.{NoneFits}
+use Rattle.limits.specs.Lines.{NoneFits, First}
 use Rattle.limits.specs.Causes.{badCount}
 use Rattle.limits.specs.Refusals.{panelRefusal}
-use Rattle.limits.proofs.FirstLine.{First, accepted-iff, refusal-first, cause-none}
+use Rattle.limits.proofs.FirstLine.{accepted-iff, refusal-first, cause-none}
 use Rattle.limits.proofs.Accepted.{table-accepted}
 use Rattle.numbers.proofs.Booleans.{or-none, in-range}
 use Rattle.panel.specs.Boards.{boardsOf}

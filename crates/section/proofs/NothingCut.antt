@@ -11,20 +11,9 @@ use borrow.Author.Tests.{lt-leb}
 use Rattle.panel.specs.Lamellae.{Lamella, thickness}
 use Rattle.section.specs.declared.Section.{Section}
 use Rattle.section.specs.Sections.{Part, leastRemainder, counted, total, lowest, highest, sectionOf}
+use Rattle.section.specs.NothingCut.{Forward, NothingCut}
 use Rattle.section.proofs.Chains.{Chain, none, more, chain-ends, counted-chain}
 use Rattle.section.proofs.Moments.{moments-add, moments-part, part-above, part-below, above-add, below-add}
-
--- of a part from a to b: b − a, b² − a² and b³ − a³ are not cut off
-pub record Forward (x : Part) : Type 0 where
-  pub n : x .from ≤ x .to
-  pub p : x .from * x .from ≤ x .to * x .to
-  pub q : x .from * x .from * x .from ≤ x .to * x .to * x .to
-
--- of a section: P − 2N·lo, 2N·hi − P and 4NQ − 3P² are not cut off
-pub record NothingCut (s : Section) : Type 0 where
-  pub outer : 2 * s .n * s .lo ≤ s .p
-  pub inner : s .p ≤ 2 * s .n * s .hi
-  pub inertia : 3 * s .p * s .p ≤ 4 * s .n * s .q
 
 -- a chain's parts run forward
 chain-forward : {top bottom : ℕ} {xs : List Part} → Chain top xs bottom → (x : Part) → List·Memᴰ x xs → Forward x

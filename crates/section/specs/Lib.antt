@@ -1,3 +1,4 @@
 pub mod Sections
 pub mod Steps
 pub mod Tests
+pub mod NothingCut
