@@ -9,7 +9,6 @@ use native.Mathlib.Nat.{mul-le-mul, le-refl}
 use lib.Dec.{leb}
 use borrow.Author.Tests.{lt-leb}
 use Rattle.panel.specs.Lamellae.{Lamella, thickness}
-use Rattle.section.specs.declared.Section.{Section}
 use Rattle.section.specs.Sections.{Part, leastRemainder, counted, total, lowest, highest, sectionOf}
 use Rattle.section.specs.NothingCut.{Forward, NothingCut}
 use Rattle.section.proofs.Chains.{Chain, none, more, chain-ends, counted-chain}

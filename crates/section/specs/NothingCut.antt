@@ -1,5 +1,5 @@
 -- That no difference in the definitions of the section is cut off at 0, as inequalities: of a counted part, and of the sums.
-use Prim.Native.Nat.{ℕ, _*_, _≤_}
+use Prim.Native.Nat.{_*_, _≤_}
 use Rattle.section.specs.declared.Section.{Section}
 use Rattle.section.specs.Sections.{Part}
 
