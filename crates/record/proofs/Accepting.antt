@@ -67,5 +67,5 @@ unfolding recordRefusal panelRefusal
 encode-accepted p e =
     let count = in-range 1 9 (p .count) (accepted-cause p e 10) in
     ap₂ (λ (f : ByteFaults) (q : Panel). refusal (tableLines f q)) (faultless p (count .0) (count .1)) (panel-there p (count .1))
-    ∙ sym (refusal-unused p (cleared p) (cleared-same p))
+    ∙ refusal-unused (cleared p) p (cleared-same p)
     ∙ e

@@ -1,7 +1,7 @@
 -- What an accepted record's lines say of its bytes.
 use Prim.Native.Nat.{ℕ, zero, suc, _+_, _*_, _≤_, _<_, min}
 use mathlib.Core.Path.{_≡_, refl, sym, ap, _∙_}
-use mathlib.Core.List.{List, map}
+use mathlib.Core.List.{List}
 use mathlib.Core.Bool.{not}
 use native.Mathlib.Omega.{arith}
 use borrow.Author.Tests.{ltb-false, lt-ltb, le-ltb, eqb-true, not-false}
@@ -10,8 +10,8 @@ use lib.Dec.{ltb, eqb}
 use mathlib.Core.Logic.{_↔_}
 use Rattle.numbers.specs.Choice.{outside}
 use Rattle.numbers.specs.Bytes.{number}
-use Rattle.panel.specs.Lamellae.{Lamella, lamellae, lamellaeOf, nine}
-use Rattle.panel.proofs.Used.{lamellaeOf-nine}
+use Rattle.panel.specs.Lamellae.{lamellae, lamellaeOf, directionsOf, thicknessesOf}
+use Rattle.panel.proofs.Used.{lamellae-with}
 use Rattle.limits.specs.Lines.{NoneFits}
 use Rattle.limits.specs.Causes.{badCount}
 use Rattle.limits.specs.Refusals.{panelRefusal}
@@ -76,12 +76,10 @@ unfolding panelOf
 record-lamellae b h =
     let n = lamellaCount b in
     let u = lamellaPart b in
-    let ls = lamellaeIn u n in
     let least : min n 9 ≡ n = omega arith in
-    ap (λ (k : ℕ). lamellaeOf (nine (map (λ (l : Lamella). l .direction) (lamellaeIn u k)))
-    (nine (map (λ (l : Lamella). l .thickness) (lamellaeIn u k))) n) least
-    ∙ ap (lamellaeOf (nine (map (λ (l : Lamella). l .direction) ls)) (nine (map (λ (l : Lamella). l .thickness) ls))) (sym (length-lamellaeIn u n))
-    ∙ lamellaeOf-nine ls
+    ap (λ (k : ℕ). lamellaeOf (directionsOf (lamellaeIn u k)) (thicknessesOf (lamellaeIn u k)) n) least
+    ∙ ap (lamellaeOf (directionsOf (lamellaeIn u n)) (thicknessesOf (lamellaeIn u n))) (sym (length-lamellaeIn u n))
+    ∙ lamellae-with (panelOf b) (lamellaeIn u n)
 
 -- the panel of an accepted record is accepted
 pub record-panel : (b : List ℕ) → recordRefusal b ≡ 0 → panelRefusal (panelOf b) ≡ 0

@@ -13,7 +13,7 @@ use Rattle.panel.specs.declared.Cladding.{Cladding}
 use Rattle.panel.specs.declared.Cladding.the-variants.{Unclad, One, Two}
 use Rattle.panel.specs.declared.Panel.{Panel}
 use Rattle.panel.specs.Lamellae.{Lamella, lamella, lamellae, cleared}
-use Rattle.panel.proofs.Used.{length-lamellaeOf}
+use Rattle.panel.proofs.Used.{length-lamellaeOf, count-cleared}
 use Rattle.panel.specs.Boards.{boardsOf}
 use Rattle.record.specs.Layouts.{
   frontWidths,
@@ -133,7 +133,7 @@ panel-there p h =
       moment = number-bytes 3 (p .moment) i;
       «failure_time» = number-bytes 3 (p .«failure_time») i;
       cladding = boards-there p i;
-      count = count-there p i;
+      count = (count-there p ∙ sym (count-cleared p)) i;
       directions = arraysOf (ls i) .directions;
       thicknesses = arraysOf (ls i) .thicknesses;
     }

@@ -1,7 +1,7 @@
 -- Document 01, "The panel record": the layout, once, as widths in bytes. `panelOf` takes a record apart by it and `encode` puts
 -- one together by it.
 use Prim.Native.Nat.{ℕ, zero, suc, _+_, _*_, min}
-use mathlib.Core.List.{List, [], _∷_, _++_, map}
+use mathlib.Core.List.{List, [], _∷_, _++_}
 use lib.ListN.{length, getD, drop}
 use Rattle.numbers.specs.Firsts.{firsts}
 use Rattle.numbers.specs.Bytes.{fields, join}
@@ -10,7 +10,7 @@ use Rattle.panel.specs.declared.Cladding.{Cladding}
 use Rattle.panel.specs.declared.Cladding.the-variants.{Unclad, One, Two}
 use Rattle.panel.specs.declared.Panel.{Panel}
 use Rattle.panel.specs.Boards.{boardsOf}
-use Rattle.panel.specs.Lamellae.{Lamella, lamellae, nine}
+use Rattle.panel.specs.Lamellae.{Lamella, lamellae, directionsOf, thicknessesOf}
 use Rattle.record.specs.declared.Lamellae.{Lamellae}
 
 -- The layout
@@ -80,11 +80,7 @@ recordLamellae b = lamellaeIn (lamellaPart b) (min (lamellaCount b) 9)
 
 -- lamellae as a panel holds them
 abbrev pub arraysOf : List Lamella → Lamellae
-arraysOf ls =
-    record {
-      directions = nine (map (λ (l : Lamella). l .direction) ls);
-      thicknesses = nine (map (λ (l : Lamella). l .thickness) ls);
-    }
+arraysOf ls = record { directions = directionsOf ls; thicknesses = thicknessesOf ls }
 
 -- the panel that stands in a record
 unfoldable pub panelOf : List ℕ → Panel
