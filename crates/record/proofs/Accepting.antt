@@ -1,7 +1,7 @@
 -- The record of an accepted panel is accepted.
 use Prim.Native.Nat.{ℕ, _≤_}
 use mathlib.Core.List.{List}
-use mathlib.Core.Path.{_≡_, sym, ap, ap₂, _∙_}
+use mathlib.Core.Path.{_≡_, refl, sym, ap, ap₂, _∙_}
 use mathlib.Core.Bool.{false, not}
 use native.Mathlib.Omega.{arith}
 use borrow.Author.Tests.{le-ltb, eq-eqb}
@@ -45,7 +45,8 @@ module _ (p : Panel) (least : 1 ≤ p .count) (most : p .count ≤ 9) where
       (ap not (eq-eqb said n (ap (λ (vs : List ℕ). getD vs 0 0) (front-there p) ∙ sym (length-encode p))))
 
   line-two : badVersion (encode p) ≡ false
-  line-two = ap (λ (vs : List ℕ). not (eqb (getD vs 1 0) 1)) (front-there p)
+  unfolding encode
+  line-two = refl
 
   line-six : badBoardCount (encode p) ≡ false
   line-six =

@@ -1,9 +1,5 @@
 // The lines about a record's bytes.
-use crate::layout::LENGTH;
-use crate::layout::LONGEST;
-use crate::layout::SHORTEST;
-use crate::layout::VERSION;
-use crate::layout::length_with;
+use crate::layout;
 use crate::reader::board_count;
 use crate::reader::lamella_count;
 use limits::ByteFaults;
@@ -16,20 +12,20 @@ fn bad_length(s: &[u8]) -> bool
     ensures { λ r. ⌜ r ≡ badLength (now (s .entry)) ⌝ }
 {
     let n = s.len();
-    ((n < SHORTEST) | (LONGEST < n)) | !(get16(s, LENGTH) as usize == n)
+    ((n < layout::SHORTEST) | (layout::LONGEST < n)) | !(get16(s, layout::LENGTH) as usize == n)
 }
 
 fn bad_version(s: &[u8]) -> bool
     ensures { λ r. ⌜ r ≡ badVersion (now (s .entry)) ⌝ }
 {
-    !(get8(s, VERSION) == 1)
+    !(get8(s, layout::VERSION) == 1)
 }
 
 fn bad_board_count(s: &[u8]) -> bool
     ensures { λ r. ⌜ r ≡ badBoardCount (now (s .entry)) ⌝ }
 {
     let c = board_count(s);
-    (2 < c) | (s.len() < length_with(c, 1))
+    (2 < c) | (s.len() < layout::length_with(c, 1))
 }
 
 fn bad_whole(s: &[u8]) -> bool
@@ -37,7 +33,7 @@ fn bad_whole(s: &[u8]) -> bool
 {
     let c = board_count(s);
     let n = lamella_count(s);
-    !(s.len() == length_with(c, n))
+    !(s.len() == layout::length_with(c, n))
 }
 
 // What the bytes say beside the panel that stands in them.

@@ -1,22 +1,7 @@
 // Takes a record apart by the layout. Nothing is asked of the bytes: one past the end reads as 0, and the lines in `lines` say
 // whether the panel stands for a record.
 use crate::Lamellae;
-use crate::layout::BOARD;
-use crate::layout::BOARD_THICKNESS;
-use crate::layout::BOARDS;
-use crate::layout::BOND;
-use crate::layout::FAILURE_TIME;
-use crate::layout::FRONT;
-use crate::layout::GAP;
-use crate::layout::HEAD;
-use crate::layout::JOINT;
-use crate::layout::LAMELLA;
-use crate::layout::MOMENT;
-use crate::layout::RATE;
-use crate::layout::STRENGTH;
-use crate::layout::THICKNESS;
-use crate::layout::count_place;
-use crate::layout::lamella_place;
+use crate::layout;
 use numbers::bytes::get8;
 use numbers::bytes::get16;
 use numbers::bytes::get32;
@@ -34,14 +19,14 @@ ghost use Rattle.record.specs.Layouts.{boardCount, lamellaCount, boardAt
 pub(crate) fn board_count(s: &[u8]) -> usize
     ensures { λ r. ⌜ (r ≡ boardCount (now (s .entry))) × (r < 256) ⌝ }
 {
-    wide(get8(part_from(s, FRONT), BOARDS)) as usize
+    wide(get8(part_from(s, layout::FRONT), layout::BOARDS)) as usize
 }
 
 // n, the number of lamellae.
 pub(crate) fn lamella_count(s: &[u8]) -> usize
     ensures { λ r. ⌜ (r ≡ lamellaCount (now (s .entry))) × (r < 256) ⌝ }
 {
-    let at = count_place(board_count(s));
+    let at = layout::count_place(board_count(s));
     wide(get8(s, at)) as usize
 }
 
@@ -50,11 +35,11 @@ fn board_at(t: &[u8], i: usize) -> Board
     requires { ⌜ i < 2 ⌝ }
     ensures { λ r. ⌜ r ≡ boardAt (now (t .entry)) i ⌝ }
 {
-    let at = HEAD + BOARD * i;
+    let at = layout::HEAD + layout::BOARD * i;
     Board {
         kind: get8(t, at),
-        thickness: get16(t, at + BOARD_THICKNESS),
-        joint: get8(t, at + JOINT),
+        thickness: get16(t, at + layout::BOARD_THICKNESS),
+        joint: get8(t, at + layout::JOINT),
     }
 }
 
@@ -79,8 +64,8 @@ fn lamellae_in(u: &[u8], n: usize) -> Lamellae
     let mut thicknesses = [0u16; 9];
     let mut i = 0;
     while i < n {
-        directions[i] = get8(u, LAMELLA * i);
-        thicknesses[i] = get16(u, LAMELLA * i + THICKNESS);
+        directions[i] = get8(u, layout::LAMELLA * i);
+        thicknesses[i] = get16(u, layout::LAMELLA * i + layout::THICKNESS);
         i += 1;
     }
     Lamellae {
@@ -93,7 +78,7 @@ fn lamellae_in(u: &[u8], n: usize) -> Lamellae
 fn lamellae_of(s: &[u8]) -> Lamellae
     ensures { λ r. ⌜ r ≡ arraysOf (recordLamellae (now (s .entry))) ⌝ }
 {
-    let from = lamella_place(board_count(s));
+    let from = layout::lamella_place(board_count(s));
     let n = lesser(lamella_count(s), 9);
     lamellae_in(part_from(s, from), n)
 }
@@ -101,17 +86,17 @@ fn lamellae_of(s: &[u8]) -> Lamellae
 pub(crate) fn panel_of(s: &[u8]) -> Panel
     ensures { λ r. ⌜ r ≡ panelOf (now (s .entry)) ⌝ }
 {
-    let t = part_from(s, FRONT);
+    let t = part_from(s, layout::FRONT);
     let lamellae = lamellae_of(s);
     let directions = lamellae.directions;
     let thicknesses = lamellae.thicknesses;
     Panel {
-        bond: get8(t, BOND),
-        rate: get8(t, RATE),
-        gap: get8(t, GAP),
-        strength: get16(t, STRENGTH),
-        moment: get32(t, MOMENT),
-        failure_time: get32(t, FAILURE_TIME),
+        bond: get8(t, layout::BOND),
+        rate: get8(t, layout::RATE),
+        gap: get8(t, layout::GAP),
+        strength: get16(t, layout::STRENGTH),
+        moment: get32(t, layout::MOMENT),
+        failure_time: get32(t, layout::FAILURE_TIME),
         cladding: cladding_at(board_count(s), t),
         count: lamella_count(s),
         directions,

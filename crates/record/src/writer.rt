@@ -1,22 +1,5 @@
 // Puts a record together by the layout.
-use crate::layout::BOARD;
-use crate::layout::BOARD_THICKNESS;
-use crate::layout::BOARDS;
-use crate::layout::COUNT;
-use crate::layout::FAILURE_TIME;
-use crate::layout::FRONT;
-use crate::layout::GAP;
-use crate::layout::HEAD;
-use crate::layout::JOINT;
-use crate::layout::LAMELLA;
-use crate::layout::LENGTH;
-use crate::layout::MOMENT;
-use crate::layout::RATE;
-use crate::layout::STRENGTH;
-use crate::layout::THICKNESS;
-use crate::layout::VERSION;
-use crate::layout::count_place;
-use crate::layout::length_with;
+use crate::layout;
 use numbers::bytes::put8;
 use numbers::bytes::put16;
 use numbers::bytes::put32;
@@ -48,8 +31,8 @@ fn put_board(out: &mut [u8], at: usize, b: Board)
     ensures { λ _. ⌜ now (out .exit) ≡ sets (now (out .entry)) at (join boardWidths (boardNumbers b)) ⌝ }
 {
     put8(out, at, b.kind);
-    put16(out, at + BOARD_THICKNESS, b.thickness);
-    put8(out, at + JOINT, b.joint);
+    put16(out, at + layout::BOARD_THICKNESS, b.thickness);
+    put8(out, at + layout::JOINT, b.joint);
 }
 
 fn put_two(out: &mut [u8], at: usize, outer: Board, inner: Board)
@@ -57,7 +40,7 @@ fn put_two(out: &mut [u8], at: usize, outer: Board, inner: Board)
     ensures { λ _. ⌜ now (out .exit) ≡ sets (now (out .entry)) at (boardBytes (outer ∷ inner ∷ [])) ⌝ }
 {
     put_board(out, at, outer);
-    put_board(out, at + BOARD, inner);
+    put_board(out, at + layout::BOARD, inner);
 }
 
 fn put_cladding(out: &mut [u8], at: usize, c: Cladding)
@@ -76,7 +59,7 @@ fn put_lamella(out: &mut [u8], at: usize, direction: u8, thickness: u16)
     ensures { λ _. ⌜ now (out .exit) ≡ sets (now (out .entry)) at (join lamellaWidths (lamellaNumbers (lamella direction thickness))) ⌝ }
 {
     put8(out, at, direction);
-    put16(out, at + THICKNESS, thickness);
+    put16(out, at + layout::THICKNESS, thickness);
 }
 
 fn put_lamellae(out: &mut [u8], at: usize, directions: [u8; 9], thicknesses: [u16; 9], count: usize)
@@ -85,7 +68,7 @@ fn put_lamellae(out: &mut [u8], at: usize, directions: [u8; 9], thicknesses: [u1
 {
     let mut i = 0;
     while i < count {
-        put_lamella(out, at + LAMELLA * i, directions[i], thicknesses[i]);
+        put_lamella(out, at + layout::LAMELLA * i, directions[i], thicknesses[i]);
         i += 1;
     }
 }
@@ -97,12 +80,12 @@ fn put_head(out: &mut [u8], at: usize, p: Panel)
     let c = p.cladding;
     let boards = boards_of(c) as u8;
     put8(out, at, p.bond);
-    put8(out, at + RATE, p.rate);
-    put8(out, at + GAP, p.gap);
-    put16(out, at + STRENGTH, p.strength);
-    put32(out, at + MOMENT, p.moment);
-    put8(out, at + BOARDS, boards);
-    put32(out, at + FAILURE_TIME, p.failure_time);
+    put8(out, at + layout::RATE, p.rate);
+    put8(out, at + layout::GAP, p.gap);
+    put16(out, at + layout::STRENGTH, p.strength);
+    put32(out, at + layout::MOMENT, p.moment);
+    put8(out, at + layout::BOARDS, boards);
+    put32(out, at + layout::FAILURE_TIME, p.failure_time);
 }
 
 // The number n of lamellae, then each lamella.
@@ -113,7 +96,7 @@ fn put_tail(out: &mut [u8], at: usize, p: Panel)
     let directions = p.directions;
     let thicknesses = p.thicknesses;
     put8(out, at, p.count as u8);
-    put_lamellae(out, at + COUNT, directions, thicknesses, p.count);
+    put_lamellae(out, at + layout::COUNT, directions, thicknesses, p.count);
 }
 
 // The length of a panel's record. No open call: the count must be at most 9.
@@ -122,15 +105,15 @@ pub(crate) fn record_length(p: Panel) -> usize
     ensures { λ r. ⌜ (r ≡ recordLength p) × (r ≤ longest) ⌝ }
 {
     let c = p.cladding;
-    length_with(boards_of(c), p.count)
+    layout::length_with(boards_of(c), p.count)
 }
 
 fn put_front(out: &mut [u8], p: Panel)
     requires { ⌜ (p .count ≤ 9) × (frontLength ≤ length (now out)) ⌝ }
     ensures { λ _. ⌜ now (out .exit) ≡ sets (now (out .entry)) 0 (join frontWidths (frontNumbers p)) ⌝ }
 {
-    put16(out, LENGTH, record_length(p) as u16);
-    put8(out, VERSION, 1);
+    put16(out, layout::LENGTH, record_length(p) as u16);
+    put8(out, layout::VERSION, 1);
 }
 
 // Stores a panel's record at the start of the space. No open call: the count must be at most 9, and the record must fit.
@@ -141,7 +124,7 @@ pub(crate) fn put_record(out: &mut [u8], p: Panel)
     let c = p.cladding;
     let boards = boards_of(c);
     put_front(out, p);
-    put_head(out, FRONT, p);
-    put_cladding(out, FRONT + HEAD, c);
-    put_tail(out, count_place(boards), p);
+    put_head(out, layout::FRONT, p);
+    put_cladding(out, layout::FRONT + layout::HEAD, c);
+    put_tail(out, layout::count_place(boards), p);
 }
