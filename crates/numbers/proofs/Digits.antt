@@ -43,7 +43,7 @@ length-bytes zero v = refl
 length-bytes (suc zero) v = refl
 length-bytes (suc (suc w)) v = ap suc (length-bytes (suc w) (v % 256 ^ suc w))
 
--- there is a number for each width, and none has no bytes
+-- there is a number for each width, and no width is 0
 abbrev pub Filled : List ℕ → List ℕ → Type 0
 Filled [] [] = Unit
 Filled [] (v ∷ vs) = ⊥

@@ -28,7 +28,7 @@ join [] vs = []
 join (w ∷ ws) [] = []
 join (w ∷ ws) (v ∷ vs) = bytes w v ++ join ws vs
 
--- how many bytes they take
+-- how many bytes numbers of these widths take
 abbrev pub span : List ℕ → ℕ
 span [] = 0
 span (w ∷ ws) = w + span ws

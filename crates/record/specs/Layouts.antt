@@ -37,23 +37,23 @@ lamellaWidths = 1 ∷ 2 ∷ []
 
 -- Lengths and places; that they are 01's numbers is proved in proofs/Worked
 
--- 3
+-- 3 bytes
 abbrev pub frontLength : ℕ
 frontLength = span frontWidths
 
--- 14
+-- 14 bytes
 abbrev pub headLength : ℕ
 headLength = span headWidths
 
--- 4
+-- 4 bytes
 abbrev pub boardLength : ℕ
 boardLength = span boardWidths
 
--- 1
+-- 1 byte
 abbrev pub countLength : ℕ
 countLength = span countWidths
 
--- 3
+-- 3 bytes
 abbrev pub lamellaLength : ℕ
 lamellaLength = span lamellaWidths
 
