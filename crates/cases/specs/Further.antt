@@ -1,13 +1,12 @@
 -- Charring worked through further, by hand from document 01's "Charring": what its starred lines leave out, with the phases.
 use Prim.Native.Nat.{ℕ}
 use mathlib.Core.List.{List, [], _∷_}
-use Rattle.panel.specs.declared.Board.{Board}
 use Rattle.panel.specs.declared.Cladding.{Cladding}
 use Rattle.panel.specs.declared.Cladding.the-variants.{One, Two}
 use Rattle.panel.specs.declared.Panel.{Panel}
 use Rattle.panel.specs.Boards.{charringStart}
-use Rattle.panel.specs.Lamellae.{nine}
-use Rattle.panel.specs.Worked.{board125}
+use Rattle.panel.specs.Lamellae.{lamella}
+use Rattle.panel.specs.Worked.{panelWith, gLamellae, boardOf, board125}
 use Rattle.limits.specs.Refusals.{panelRefusal}
 use Rattle.charring.specs.declared.Phase.the-variants.{Fast, Settled}
 use Rattle.charring.specs.Depths.{charAt}
@@ -18,58 +17,20 @@ use Rattle.cases.specs.Cases.{Case, gives, bears, inPhase, hundredths, h
 -- document 000, A 1.2: 40-20-20-20-40 mm with falling bond behind type F 12.5 that fails at 55 min, β 63; f 240, no moment
 abbrev pub five : Panel
 five =
-    record {
-      bond = 1;
-      rate = 63;
-      gap = 0;
-      strength = 240;
-      moment = 0;
-      «failure_time» = 55000;
-      cladding = One (board125 70);
-      count = 5;
-      directions = nine (1 ∷ 0 ∷ 1 ∷ 0 ∷ 1 ∷ []);
-      thicknesses = nine (400 ∷ 200 ∷ 200 ∷ 200 ∷ 400 ∷ []);
-    }
+    panelWith 1 63 0 240 0 55000 (One (board125 70))
+    (lamella 1 400 ∷ lamella 0 200 ∷ lamella 1 200 ∷ lamella 0 200 ∷ lamella 1 400 ∷ [])
 
 -- one lamella 60 behind boards, β 65, f 240, no moment; gap, failure time and boards are open
 abbrev pub one : ℕ → ℕ → Cladding → Panel
-one gap failure boards =
-    record {
-      bond = 0;
-      rate = 65;
-      gap = gap;
-      strength = 240;
-      moment = 0;
-      «failure_time» = failure;
-      cladding = boards;
-      count = 1;
-      directions = nine (1 ∷ []);
-      thicknesses = nine (600 ∷ []);
-    }
-
--- boards of type A with coefficient 100
-abbrev pub boardA : ℕ → Board
-boardA h = record { kind = 65; thickness = h; joint = 100 }
+one gap failure boards = panelWith 0 65 gap 240 0 failure boards (lamella 1 600 ∷ [])
 
 -- G with M 3,000 behind one board of type F 12.5 that fails at 41 min
 abbrev pub gBehindF : Panel
-gBehindF =
-    record {
-      bond = 0;
-      rate = 65;
-      gap = 0;
-      strength = 240;
-      moment = 3000;
-      «failure_time» = 41000;
-      cladding = One (board125 70);
-      count = 3;
-      directions = nine (1 ∷ 0 ∷ 1 ∷ []);
-      thicknesses = nine (300 ∷ 400 ∷ 300 ∷ []);
-    }
+gBehindF = panelWith 0 65 0 240 3000 41000 (One (board125 70)) gLamellae
 
 -- A 12.5 over A 15.0
 abbrev pub twoA : Panel
-twoA = one 0 0 (Two (boardA 125) (boardA 150))
+twoA = one 0 0 (Two (board125 65) (boardOf 65 150))
 
 -- two F 12.5, t_f 80 min
 abbrev pub twoF : Panel
@@ -77,7 +38,7 @@ twoF = one 0 80000 (Two (board125 70) (board125 70))
 
 -- A 9.0 over a wide gap
 abbrev pub wideA : Panel
-wideA = one 1 0 (One (boardA 90))
+wideA = one 1 0 (One (boardOf 65 90))
 
 -- Rows
 

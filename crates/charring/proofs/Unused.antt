@@ -1,16 +1,16 @@
 -- Unused places do not matter: panels that differ at most there have the same depths and phases and meet the same refusals.
 use Prim.Native.Nat.{ℕ, _-_, _*_}
-use mathlib.Core.Path.{_≡_, refl, ap, ap₂}
+use mathlib.Core.Path.{_≡_, refl, ap}
 use mathlib.Core.List.{List, [], _++_}
 use mathlib.Core.Bool.{true, false}
 use lib.Dec.{eqb, leb, ltb}
 use Rattle.numbers.proofs.FirstValues.{firsts-agree}
 use Rattle.panel.specs.declared.Panel.{Panel}
-use Rattle.panel.specs.Lamellae.{Lamella, SameUsed}
-use Rattle.panel.proofs.Used.{same-lamellae}
+use Rattle.panel.specs.Lamellae.{Lamella, cleared, SameUsed, thickness}
+use Rattle.panel.proofs.Used.{lamellae-cleared, unused}
 use Rattle.limits.specs.Lines.{Line, refusal}
 use Rattle.limits.proofs.Unused.{lines-unused}
-use Rattle.charring.specs.Fires.{startOf, failureOf, plainRate, backFace, firstEnd, linesFrom, bondLines}
+use Rattle.charring.specs.Fires.{tenth, startOf, failureOf, plainRate, firstEnd, linesFrom, bondLines}
 use Rattle.charring.specs.Stages.{Stretch, way}
 use Rattle.charring.specs.Depths.{charAt, effectiveAt, micrometresAt, tenthsAt}
 use Rattle.charring.specs.Phases.{phaseOn, phaseAt}
@@ -28,62 +28,53 @@ use Rattle.charring.specs.Answers.{
 }
 use Rattle.charring.proofs.Replies.{late, short}
 
--- Times, runs and lines
+-- With unused places 0
 
-failure-same : (p q : Panel) → SameUsed p q → failureOf p ≡ failureOf q
-unfolding failureOf
-failure-same p q h = rw (h .failureTime, h .gap, h .cladding) refl
-
-first-same : (p q : Panel) → SameUsed p q → firstEnd p ≡ firstEnd q
-unfolding firstEnd
-first-same p q h = rw (failure-same p q h, h .rate, h .gap, h .cladding) refl
-
-lines-same : (p q : Panel) → SameUsed p q → bondLines p ≡ bondLines q
+lines-cleared : (p : Panel) → bondLines (cleared p) ≡ bondLines p
 unfolding bondLines
-lines-same p q h =
-    ap₂ (λ (b : ℕ) (ls : List Lamella). elim (eqb b 1) as (λ _. List ℕ) [ true ↦ linesFrom 0 ls | false ↦ [] ]) (h .bond)
-    (same-lamellae p q h)
+lines-cleared p =
+    ap (λ (ls : List Lamella). elim (eqb (p .bond) 1) as (λ _. List ℕ) [ true ↦ linesFrom 0 ls | false ↦ [] ]) (lamellae-cleared p)
 
-way-same : (p q : Panel) → SameUsed p q → way p ≡ way q
-unfolding way
-way-same p q h =
-    rw (lines-same p q h, first-same p q h, failure-same p q h, same-lamellae p q h, h .rate, h .gap, h .cladding) refl
+way-cleared : (p : Panel) → way (cleared p) ≡ way p
+unfolding way firstEnd failureOf
+way-cleared p = rw (lines-cleared p, lamellae-cleared p) refl
+
+char-cleared : (p : Panel) (n m : ℕ) → charAt (cleared p) n m ≡ charAt p n m
+unfolding charAt failureOf
+char-cleared p n m = rw (way-cleared p, lamellae-cleared p) refl
+
+tenths-cleared : (p : Panel) (n m : ℕ) → tenthsAt (cleared p) n m ≡ tenthsAt p n m
+unfolding effectiveAt
+tenths-cleared p n m = rw (char-cleared p n m, lamellae-cleared p) refl
+
+-- the phase of p as it follows from its char depth, its back face and its way
+abbrev phaseFrom : Panel → ℕ → ℕ → List Stretch → ℕ → ℕ → Phase
+phaseFrom p char back way n m =
+    elim (leb (2 * m * back) char) as (λ _. Phase) [
+      | true ↦ Settled
+      | false ↦
+          elim (ltb (1000 * n) (m * startOf p)) as (λ _. Phase) [
+            | true ↦ Untouched
+            | false ↦
+                elim (ltb (1000 * n) (m * failureOf p)) as (λ _. Phase)
+                [ true ↦ UnderCladding | false ↦ phaseOn way (2 * plainRate p * (1000 * n - m * failureOf p)) m ]
+          ]
+    ]
+
+phase-cleared : (p : Panel) (n m : ℕ) → phaseAt (cleared p) n m ≡ phaseAt p n m
+unfolding phaseAt failureOf
+phase-cleared p n m = λ i. phaseFrom p (char-cleared p n m i) (tenth * thickness (lamellae-cleared p i)) (way-cleared p i) n m
 
 -- Depths and phases
 
 pub char-same : (p q : Panel) → SameUsed p q → (n m : ℕ) → charAt p n m ≡ charAt q n m
-unfolding charAt
-char-same p q h n m =
-    rw (way-same p q h, failure-same p q h, same-lamellae p q h, h .rate, h .gap, h .cladding) refl
-
-effective-same : (p q : Panel) → SameUsed p q → (n m : ℕ) → effectiveAt p n m ≡ effectiveAt q n m
-unfolding effectiveAt
-effective-same p q h n m = rw (char-same p q h n m, same-lamellae p q h, h .gap, h .cladding) refl
+char-same p q h n m = unused (λ (p : Panel). charAt p n m) (λ p. char-cleared p n m) p q h
 
 pub tenths-same : (p q : Panel) → SameUsed p q → (n m : ℕ) → tenthsAt p n m ≡ tenthsAt q n m
-tenths-same p q h n m = rw (effective-same p q h n m, h .gap, h .cladding) refl
-
--- the phase as it follows from what a panel gives
-abbrev phaseFrom : ℕ → ℕ → ℕ → ℕ → ℕ → List Stretch → ℕ → ℕ → Phase
-phaseFrom char back start failure plain way n m =
-    elim (leb (2 * m * back) char) as (λ _. Phase) [
-      | true ↦ Settled
-      | false ↦
-          elim (ltb (1000 * n) (m * start)) as (λ _. Phase) [
-            | true ↦ Untouched
-            | false ↦
-                elim (ltb (1000 * n) (m * failure)) as (λ _. Phase)
-                [ true ↦ UnderCladding | false ↦ phaseOn way (2 * plain * (1000 * n - m * failure)) m ]
-          ]
-    ]
+tenths-same p q h n m = unused (λ (p : Panel). tenthsAt p n m) (λ p. tenths-cleared p n m) p q h
 
 phase-same : (p q : Panel) → SameUsed p q → (n m : ℕ) → phaseAt p n m ≡ phaseAt q n m
-unfolding phaseAt
-phase-same p q h n m =
-    let back : backFace p ≡ backFace q = rw (same-lamellae p q h) refl in
-    let start : startOf p ≡ startOf q = rw (h .gap, h .cladding) refl in
-    let plain : plainRate p ≡ plainRate q = rw (h .rate) refl in
-    λ i. phaseFrom (char-same p q h n m i) (back i) (start i) (failure-same p q h i) (plain i) (way-same p q h i) n m
+phase-same p q h n m = unused (λ (p : Panel). phaseAt p n m) (λ p. phase-cleared p n m) p q h
 
 -- Answers
 

@@ -2,14 +2,14 @@
 use mathlib.Core.Path.{_≡_, refl}
 use Rattle.panel.specs.declared.Panel.{Panel}
 use Rattle.panel.specs.Lamellae.{SameUsed}
-use Rattle.panel.proofs.Used.{same-lamellae}
+use Rattle.panel.proofs.Used.{lamellae-cleared, unused}
 use Rattle.limits.proofs.Unused.{refusal-unused}
 use Rattle.layers.specs.Layers.{eiSum, eiMinute}
 use Rattle.layers.specs.Answers.{eiAnswer, eiSumAnswer}
 
 sum-unused : (p q : Panel) → SameUsed p q → eiSum p ≡ eiSum q
 unfolding eiSum
-sum-unused p q h = rw (same-lamellae p q h, h .cladding) refl
+sum-unused = unused eiSum (λ p. rw (lamellae-cleared p) refl)
 
 pub ei-minute-same : (p q : Panel) → SameUsed p q → eiMinute p ≡ eiMinute q
 ei-minute-same p q h = rw (sum-unused p q h) refl

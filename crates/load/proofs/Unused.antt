@@ -2,8 +2,8 @@
 use Prim.Native.Nat.{ℕ}
 use mathlib.Core.Path.{_≡_, refl}
 use Rattle.panel.specs.declared.Panel.{Panel}
-use Rattle.panel.specs.Lamellae.{SameUsed}
-use Rattle.panel.proofs.Used.{same-lamellae}
+use Rattle.panel.specs.Lamellae.{cleared, SameUsed}
+use Rattle.panel.proofs.Used.{lamellae-cleared, unused}
 use Rattle.section.specs.Tests.{depthPasses}
 use Rattle.limits.proofs.Unused.{refusal-unused}
 use Rattle.charring.proofs.Unused.{tenths-same, minute-refusal-same}
@@ -11,12 +11,12 @@ use Rattle.load.specs.Failure.{EveryTenthPasses, TimePasses}
 use Rattle.load.specs.LoadMinute.{everyFrom, timeTest, wholePart, loadMinute}
 use Rattle.load.specs.Answers.{loadAnswer, reserveAnswer}
 
+passes-cleared : (p : Panel) (depth : ℕ) → depthPasses (cleared p) depth ≡ depthPasses p depth
+passes-cleared p depth = rw (lamellae-cleared p) refl
+
 module _ (p q : Panel) (h : SameUsed p q) where
   depth-passes-same : depthPasses p ≡ depthPasses q
-  depth-passes-same = λ i depth. passes depth i
-    where
-      passes : (depth : ℕ) → depthPasses p depth ≡ depthPasses q depth
-      passes depth = rw (same-lamellae p q h, h .strength, h .moment) refl
+  depth-passes-same = unused depthPasses (λ p i depth. passes-cleared p depth i) p q h
 
   pub time-passes-same : TimePasses p ≡ TimePasses q
   time-passes-same = λ i n m. EveryTenthPasses (depth-passes-same i) (tenths-same p q h n m i)

@@ -12,11 +12,6 @@ unfoldable pub places : List ℕ → ℕ → ℕ → List ℕ
 places b at zero = []
 places b at (suc w) = getD b at 0 ∷ places b (at + 1) w
 
--- how many bytes fields of these widths take
-unfoldable pub span : List ℕ → ℕ
-span [] = 0
-span (w ∷ ws) = w + span ws
-
 pub getD-cons : (x : ℕ) (l : List ℕ) (at : ℕ) → getD (x ∷ l) (at + 1) 0 ≡ getD l at 0
 getD-cons x l at = rw add-one
 

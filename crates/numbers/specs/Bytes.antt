@@ -27,3 +27,8 @@ abbrev pub join : List ℕ → List ℕ → List ℕ
 join [] vs = []
 join (w ∷ ws) [] = []
 join (w ∷ ws) (v ∷ vs) = bytes w v ++ join ws vs
+
+-- how many bytes numbers of these widths take
+abbrev pub span : List ℕ → ℕ
+span [] = 0
+span (w ∷ ws) = w + span ws

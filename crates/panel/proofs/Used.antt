@@ -1,4 +1,4 @@
--- Which places of a panel's arrays its lamellae come from.
+-- A panel's lamellae come from the used places of its arrays, and a panel may be given others.
 use Prim.Native.Nat.{ℕ, zero, suc, _+_, _-_, _<_, _≤_}
 use mathlib.Core.Path.{_≡_, refl, sym, ap, ap₂, _∙_}
 use mathlib.Core.List.{List, [], _∷_, _++_, map}
@@ -6,9 +6,21 @@ use mathlib.Core.Logic.{⊎-elim}
 use native.Mathlib.Nat.{eq-or-lt-of-le}
 use native.Mathlib.Omega.{arith}
 use lib.ListN.{length, getD, length-map, List·getD-append, List·getD-map, replicate}
-use Rattle.numbers.proofs.FirstValues.{length-firsts, firsts-agree, getD-firsts, firsts-getD}
+use Rattle.numbers.proofs.FirstValues.{length-firsts, firsts-agree, firsts-getD, getD-firsts}
 use Rattle.panel.specs.declared.Panel.{Panel}
-use Rattle.panel.specs.Lamellae.{Lamella, lamella, lamellaeOf, lamellae, nine, cleared, thickness, SameUsed}
+use Rattle.panel.specs.Lamellae.{
+  Lamella,
+  lamella,
+  lamellaeOf,
+  lamellae,
+  nine,
+  directionsOf,
+  thicknessesOf,
+  withLamellae,
+  cleared,
+  SameUsed,
+  thickness,
+}
 
 -- there are as many lamellae as the count says
 pub length-lamellaeOf : (gs ts : List ℕ) (n : ℕ) → length (lamellaeOf gs ts n) ≡ n
@@ -21,15 +33,6 @@ pub getD-lamellaeOf :
 unfolding lamellaeOf
 getD-lamellaeOf gs ts n i h = getD-firsts (λ (i : ℕ). lamella (getD gs i 0) (getD ts i 0)) n i (lamella 0 0) h
 
--- panels that differ at most in their unused places have the same lamellae
-pub same-lamellae : (p q : Panel) → SameUsed p q → lamellae p ≡ lamellae q
-unfolding lamellaeOf
-same-lamellae p q h =
-    firsts-agree (λ (i : ℕ). lamella (getD (p .directions) i 0) (getD (p .thicknesses) i 0))
-    (λ (i : ℕ). lamella (getD (q .directions) i 0) (getD (q .thicknesses) i 0)) (p .count)
-    (λ i k. ap₂ lamella (h .directions i k) (h .thicknesses i k))
-    ∙ ap (lamellaeOf (q .directions) (q .thicknesses)) (h .count)
-
 -- an array of nine that was filled from lamellae holds their numbers
 getD-nine :
     (f : Lamella → ℕ) (ls : List Lamella) (i : ℕ) (d : Lamella) → f d ≡ 0 → i < length ls → getD (nine (map f ls)) i 0 ≡ f (getD ls i d)
@@ -38,44 +41,44 @@ getD-nine f ls i d e h =
     ∙ ap (getD (map f ls) i) (sym e)
     ∙ List·getD-map f ls i d
 
--- arrays filled from lamellae hold these lamellae
-pub lamellaeOf-nine :
-    (ls : List Lamella)
-    → lamellaeOf (nine (map (λ (l : Lamella). l .direction) ls)) (nine (map (λ (l : Lamella). l .thickness) ls)) (length ls) ≡ ls
+-- the lamellae of a panel with other lamellae are these
+pub lamellae-with : (p : Panel) (ls : List Lamella) → lamellae (withLamellae p ls) ≡ ls
 unfolding lamellaeOf
-lamellaeOf-nine ls =
-    firsts-getD (λ (i : ℕ). lamella (getD (nine (map (λ (l : Lamella). l .direction) ls)) i 0)
-    (getD (nine (map (λ (l : Lamella). l .thickness) ls)) i 0))
-    ls (lamella 0 0)
+lamellae-with p ls =
+    firsts-getD (λ (i : ℕ). lamella (getD (directionsOf ls) i 0) (getD (thicknessesOf ls) i 0)) ls (lamella 0 0)
     (λ i h.
     ap₂ lamella (getD-nine (λ (l : Lamella). l .direction) ls i (lamella 0 0) refl h)
     (getD-nine (λ (l : Lamella). l .thickness) ls i (lamella 0 0) refl h))
 
--- a panel and the same with its unused places 0 differ at most there
-pub cleared-same : (p : Panel) → SameUsed p (cleared p)
-unfolding lamellaeOf
-cleared-same p =
-    record {
-      bond = refl;
-      rate = refl;
-      gap = refl;
-      strength = refl;
-      moment = refl;
-      failureTime = refl;
-      cladding = refl;
-      count = refl;
-      directions = λ i h. sym (place (λ (l : Lamella). l .direction) i refl h);
-      thicknesses = λ i h. sym (place (λ (l : Lamella). l .thickness) i refl h);
-    }
-  where
-    at : ℕ → Lamella
-    at i = lamella (getD (p .directions) i 0) (getD (p .thicknesses) i 0)
+-- Unused places
 
-    place :
-        (f : Lamella → ℕ) (i : ℕ) → f (lamella 0 0) ≡ 0 → i < p .count → getD (nine (map f (lamellae p))) i 0 ≡ f (at i)
-    place f i e h =
-        getD-nine f (lamellae p) i (lamella 0 0) e (omega (arith, length-lamellaeOf (p .directions) (p .thicknesses) (p .count)))
-        ∙ ap f (getD-firsts at (p .count) i (lamella 0 0) h)
+pub lamellae-cleared : (p : Panel) → lamellae (cleared p) ≡ lamellae p
+lamellae-cleared p = lamellae-with p (lamellae p)
+
+pub count-cleared : (p : Panel) → cleared p .count ≡ p .count
+count-cleared p = length-lamellaeOf (p .directions) (p .thicknesses) (p .count)
+
+-- a panel and the same with its unused places 0 differ at most there
+pub cleared-same : (p : Panel) → SameUsed (cleared p) p
+cleared-same p = ap (withLamellae p) (lamellae-cleared p)
+
+-- what does not change when unused places become 0 is the same for panels that differ at most there
+pub unused {ℓ} : {A : Type ℓ} (f : Panel → A) → ((p : Panel) → f (cleared p) ≡ f p) → (p q : Panel) → SameUsed p q → f p ≡ f q
+unused f e p q h = sym (e p) ∙ ap f h ∙ e q
+
+-- panels that agree in all but their lamellae, in the count and at every used place differ at most in their unused places
+pub agree-same :
+    (p q : Panel) → withLamellae p [] ≡ withLamellae q [] → p .count ≡ q .count
+    → ((i : ℕ) → i < p .count → getD (p .directions) i 0 ≡ getD (q .directions) i 0)
+    → ((i : ℕ) → i < p .count → getD (p .thicknesses) i 0 ≡ getD (q .thicknesses) i 0)
+    → SameUsed p q
+unfolding lamellaeOf
+agree-same p q rest count directions thicknesses =
+    ap₂ withLamellae rest
+    (firsts-agree (λ (i : ℕ). lamella (getD (p .directions) i 0) (getD (p .thicknesses) i 0))
+    (λ (i : ℕ). lamella (getD (q .directions) i 0) (getD (q .thicknesses) i 0)) (p .count)
+    (λ i k. ap₂ lamella (directions i k) (thicknesses i k))
+    ∙ ap (lamellaeOf (q .directions) (q .thicknesses)) count)
 
 -- Thickness of runs of lamellae
 

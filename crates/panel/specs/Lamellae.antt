@@ -1,5 +1,5 @@
 -- Document 01, "The panel record": the lamellae of a panel, and its unused places.
-use Prim.Native.Nat.{ℕ, _+_, _-_, _<_}
+use Prim.Native.Nat.{ℕ, _+_, _-_}
 use mathlib.Core.Path.{_≡_}
 use mathlib.Core.List.{List, [], _∷_, _++_, map}
 use mathlib.Core.Bool.{Bool}
@@ -30,9 +30,16 @@ lamellae p = lamellaeOf (p .directions) (p .thicknesses) (p .count)
 abbrev pub nine : List ℕ → List ℕ
 nine xs = xs ++ replicate (9 - length xs) 0
 
--- "Unused places are .. read as 0": the panel with its unused places 0
-abbrev pub cleared : Panel → Panel
-cleared p =
+-- lamellae as a panel holds them, in "thickness and direction arrays of nine"
+abbrev pub directionsOf : List Lamella → List ℕ
+directionsOf ls = nine (map (λ (l : Lamella). l .direction) ls)
+
+abbrev pub thicknessesOf : List Lamella → List ℕ
+thicknessesOf ls = nine (map (λ (l : Lamella). l .thickness) ls)
+
+-- a panel with other lamellae: nothing else of it changes
+abbrev pub withLamellae : Panel → List Lamella → Panel
+withLamellae p ls =
     record {
       bond = p .bond;
       rate = p .rate;
@@ -41,23 +48,18 @@ cleared p =
       moment = p .moment;
       «failure_time» = p .«failure_time»;
       cladding = p .cladding;
-      count = p .count;
-      directions = nine (map (λ (l : Lamella). l .direction) (lamellae p));
-      thicknesses = nine (map (λ (l : Lamella). l .thickness) (lamellae p));
+      count = length ls;
+      directions = directionsOf ls;
+      thicknesses = thicknessesOf ls;
     }
 
--- two panels that differ at most in their unused places
-pub record SameUsed (p q : Panel) : Type 0 where
-  pub bond : p .bond ≡ q .bond
-  pub rate : p .rate ≡ q .rate
-  pub gap : p .gap ≡ q .gap
-  pub strength : p .strength ≡ q .strength
-  pub moment : p .moment ≡ q .moment
-  pub failureTime : p .«failure_time» ≡ q .«failure_time»
-  pub cladding : p .cladding ≡ q .cladding
-  pub count : p .count ≡ q .count
-  pub directions : (i : ℕ) → i < p .count → getD (p .directions) i 0 ≡ getD (q .directions) i 0
-  pub thicknesses : (i : ℕ) → i < p .count → getD (p .thicknesses) i 0 ≡ getD (q .thicknesses) i 0
+-- "Unused places are .. read as 0": the panel with its unused places 0
+abbrev pub cleared : Panel → Panel
+cleared p = withLamellae p (lamellae p)
+
+-- two panels that differ at most in their unused places: they are the same with these 0
+abbrev pub SameUsed : Panel → Panel → Type 0
+SameUsed p q = cleared p ≡ cleared q
 
 -- along the span, "1 along"
 abbrev pub along : Lamella → Bool

@@ -1,14 +1,13 @@
 -- The record of an accepted panel is accepted.
-use Prim.Native.Nat.{ℕ, _+_, _*_, _≤_}
-use mathlib.Core.Path.{_≡_, sym, ap, ap₂, _∙_}
+use Prim.Native.Nat.{ℕ, _≤_}
+use mathlib.Core.List.{List}
+use mathlib.Core.Path.{_≡_, refl, sym, ap, ap₂, _∙_}
 use mathlib.Core.Bool.{false, not}
 use native.Mathlib.Omega.{arith}
 use borrow.Author.Tests.{le-ltb, eq-eqb}
-use lib.ListN.{length}
+use lib.ListN.{length, getD}
 use lib.Dec.{ltb, eqb}
 use Rattle.numbers.specs.Choice.{outside}
-use Rattle.numbers.specs.Bytes.{number}
-use Rattle.numbers.proofs.Digits.{number-bytes}
 use Rattle.panel.specs.declared.Cladding.{Cladding}
 use Rattle.panel.specs.declared.Cladding.the-variants.{Unclad, One, Two}
 use Rattle.panel.specs.declared.Panel.{Panel}
@@ -21,10 +20,10 @@ use Rattle.numbers.proofs.Booleans.{in-range, none-or}
 use Rattle.limits.proofs.Accepted.{accepted-cause}
 use Rattle.limits.proofs.Unused.{refusal-unused}
 use Rattle.panel.specs.Boards.{boardsOf}
-use Rattle.record.specs.Layouts.{lamellaCount, recordLength, encode}
-use Rattle.record.specs.Refusals.{badLength, badBoardCount, badWhole, byteFaults, recordRefusal}
+use Rattle.record.specs.Layouts.{lengthWith, shortest, longest, frontOf, boardCount, lamellaCount, encode}
+use Rattle.record.specs.Refusals.{badLength, badVersion, badBoardCount, badWhole, byteFaults, recordRefusal}
 use Rattle.record.proofs.Lengths.{length-encode}
-use Rattle.record.proofs.There.{count-there, panel-there}
+use Rattle.record.proofs.There.{front-there, board-count-there, count-there, panel-there}
 
 at-most-two : (c : Cladding) → length (boardsOf c) ≤ 2
 at-most-two Unclad = omega arith
@@ -35,38 +34,40 @@ at-most-two (Two outer inner) = omega arith
 
 module _ (p : Panel) (least : 1 ≤ p .count) (most : p .count ≤ 9) where
   line-one : badLength (encode p) ≡ false
-  unfolding encode
   line-one =
+      let n : ℕ = length (encode p) in
+      let said : ℕ = getD (frontOf (encode p)) 0 0 in
       let boards = at-most-two (p .cladding) in
-      let low : 21 ≤ length (encode p) = omega (arith, length-encode p) in
-      let high : length (encode p) ≤ 53 = omega (arith, length-encode p) in
-      none-or (outside 21 53 (length (encode p))) (not (eqb (number (encode p) 0 2) (length (encode p))))
-      (none-or (ltb (length (encode p)) 21) (ltb 53 (length (encode p))) (le-ltb (length (encode p)) 21 low) (le-ltb 53 (length (encode p)) high))
-      (ap not (eq-eqb (number (encode p) 0 2) (length (encode p)) (number-bytes 1 (recordLength p) ∙ sym (length-encode p))))
+      let low : shortest ≤ n = omega (arith, length-encode p) in
+      let high : n ≤ longest = omega (arith, length-encode p) in
+      none-or (outside shortest longest n) (not (eqb said n))
+      (none-or (ltb n shortest) (ltb longest n) (le-ltb n shortest low) (le-ltb longest n high))
+      (ap not (eq-eqb said n (ap (λ (vs : List ℕ). getD vs 0 0) (front-there p) ∙ sym (length-encode p))))
+
+  line-two : badVersion (encode p) ≡ false
+  unfolding encode
+  line-two = refl
 
   line-six : badBoardCount (encode p) ≡ false
-  unfolding encode
   line-six =
-      let k = length (boardsOf (p .cladding)) in
-      none-or (ltb 2 k) (ltb (length (encode p)) (21 + 4 * k)) (le-ltb 2 k (at-most-two (p .cladding)))
-      (le-ltb (length (encode p)) (21 + 4 * k) (omega (arith, length-encode p)))
+      let c : ℕ = boardCount (encode p) in
+      let boards : c ≤ 2 = rw (board-count-there p) (at-most-two (p .cladding)) in
+      none-or (ltb 2 c) (ltb (length (encode p)) (lengthWith c 1)) (le-ltb 2 c boards)
+      (le-ltb (length (encode p)) (lengthWith c 1) (omega (arith, length-encode p, board-count-there p)))
 
   line-ten : badWhole (encode p) ≡ false
-  unfolding encode
   line-ten =
-      let k = length (boardsOf (p .cladding)) in
-      ap not (eq-eqb (length (encode p)) (18 + 4 * k + 3 * lamellaCount (encode p))
-      (length-encode p ∙ ap (λ (n : ℕ). 18 + 4 * k + 3 * n) (sym (count-there p))))
+      let n : ℕ = lengthWith (boardCount (encode p)) (lamellaCount (encode p)) in
+      ap not (eq-eqb (length (encode p)) n (length-encode p ∙ sym (ap₂ lengthWith (board-count-there p) (count-there p))))
 
   -- so its bytes have no fault
   faultless : byteFaults (encode p) ≡ noBytes
-  unfolding encode
-  faultless = λ i. record { length = line-one i; version = false; «board_count» = line-six i; «lamella_count» = line-ten i }
+  faultless = λ i. record { length = line-one i; version = line-two i; «board_count» = line-six i; «lamella_count» = line-ten i }
 
 pub encode-accepted : (p : Panel) → panelRefusal p ≡ 0 → recordRefusal (encode p) ≡ 0
 unfolding recordRefusal panelRefusal
 encode-accepted p e =
     let count = in-range 1 9 (p .count) (accepted-cause p e 10) in
     ap₂ (λ (f : ByteFaults) (q : Panel). refusal (tableLines f q)) (faultless p (count .0) (count .1)) (panel-there p (count .1))
-    ∙ sym (refusal-unused p (cleared p) (cleared-same p))
+    ∙ refusal-unused (cleared p) p (cleared-same p)
     ∙ e

@@ -1,19 +1,18 @@
 -- Arrays of nine that are filled lamella by lamella.
-use Prim.Native.Nat.{ℕ, suc, _+_, _-_, _*_, _<_}
+use Prim.Native.Nat.{ℕ, suc, _+_, _-_, _<_}
 use mathlib.Core.Path.{_≡_, sym, ap, _∙_}
 use mathlib.Core.List.{List, [], _∷_, _++_, map, map-append, append-assoc}
 use native.Mathlib.Omega.{arith}
 use native.Mathlib.Numerals.{add-one}
 use lib.ListN.{length, set, replicate, length-append, length-map}
 use lib.Seq.{set-at}
-use Rattle.numbers.specs.Bytes.{fields}
 use Rattle.numbers.proofs.FirstValues.{length-firsts}
 use Rattle.panel.specs.Lamellae.{Lamella, nine}
-use Rattle.record.specs.Layouts.{lamellaWidths, lamellaFrom, lamellaeIn}
+use Rattle.record.specs.Layouts.{lamellaAt, lamellaeIn}
 
 pub length-lamellaeIn : (u : List ℕ) (n : ℕ) → length (lamellaeIn u n) ≡ n
 unfolding lamellaeIn
-length-lamellaeIn u n = length-firsts (λ (i : ℕ). lamellaFrom (fields lamellaWidths u (3 * i))) n
+length-lamellaeIn u n = length-firsts (lamellaAt u) n
 
 -- the next place of an array of nine
 pub nine-more : (xs : List ℕ) (i x : ℕ) → length xs ≡ i → i < 9 → set (nine xs) i x ≡ nine (xs ++ (x ∷ []))
@@ -27,9 +26,9 @@ nine-more xs i x e h =
 -- an array that holds the first i lamellae holds, after one store, one more
 pub filled-more :
     (f : Lamella → ℕ) (u : List ℕ) (i : ℕ) → i < 9
-    → set (nine (map f (lamellaeIn u i))) i (f (lamellaFrom (fields lamellaWidths u (3 * i)))) ≡ nine (map f (lamellaeIn u (i + 1)))
+    → set (nine (map f (lamellaeIn u i))) i (f (lamellaAt u i)) ≡ nine (map f (lamellaeIn u (i + 1)))
 unfolding lamellaeIn
 filled-more f u i h =
-    nine-more (map f (lamellaeIn u i)) i (f (lamellaFrom (fields lamellaWidths u (3 * i)))) (length-map (lamellaeIn u i) f ∙ length-lamellaeIn u i) h
-    ∙ ap nine (sym (map-append f (lamellaeIn u i) (lamellaFrom (fields lamellaWidths u (3 * i)) ∷ [])))
+    nine-more (map f (lamellaeIn u i)) i (f (lamellaAt u i)) (length-map (lamellaeIn u i) f ∙ length-lamellaeIn u i) h
+    ∙ ap nine (sym (map-append f (lamellaeIn u i) (lamellaAt u i ∷ [])))
     ∙ ap (λ (k : ℕ). nine (map f (lamellaeIn u k))) (sym (add-one i))

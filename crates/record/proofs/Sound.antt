@@ -1,17 +1,16 @@
 -- What an accepted record's lines say of its bytes.
-use Prim.Native.Nat.{ℕ, zero, suc, _+_, _*_, _≤_, _<_, min}
+use Prim.Native.Nat.{ℕ, zero, suc, _≤_, _<_, min}
 use mathlib.Core.Path.{_≡_, refl, sym, ap, _∙_}
-use mathlib.Core.List.{List, map}
+use mathlib.Core.List.{List, [], _∷_}
 use mathlib.Core.Bool.{not}
 use native.Mathlib.Omega.{arith}
 use borrow.Author.Tests.{ltb-false, lt-ltb, le-ltb, eqb-true, not-false}
-use lib.ListN.{length}
+use lib.ListN.{length, getD}
 use lib.Dec.{ltb, eqb}
 use mathlib.Core.Logic.{_↔_}
 use Rattle.numbers.specs.Choice.{outside}
-use Rattle.numbers.specs.Bytes.{number}
-use Rattle.panel.specs.Lamellae.{Lamella, lamellae, lamellaeOf, nine}
-use Rattle.panel.proofs.Used.{lamellaeOf-nine}
+use Rattle.panel.specs.Lamellae.{lamellae, lamellaeOf, directionsOf, thicknessesOf}
+use Rattle.panel.proofs.Used.{lamellae-with}
 use Rattle.limits.specs.Lines.{NoneFits, First}
 use Rattle.limits.specs.Causes.{badCount}
 use Rattle.limits.specs.Refusals.{panelRefusal}
@@ -19,17 +18,30 @@ use Rattle.limits.proofs.FirstLine.{accepted-iff, refusal-first, cause-none}
 use Rattle.limits.proofs.Accepted.{table-accepted}
 use Rattle.numbers.proofs.Booleans.{or-none, in-range}
 use Rattle.panel.specs.Boards.{boardsOf}
-use Rattle.record.specs.Layouts.{boardCount, lamellaCount, lamellaPart, claddingAt, lamellaeIn, panelOf}
+use Rattle.record.specs.Layouts.{
+  lengthWith,
+  shortest,
+  longest,
+  frontOf,
+  body,
+  boardCount,
+  lamellaCount,
+  lamellaPart,
+  claddingAt,
+  lamellaeIn,
+  panelOf,
+  recordLength,
+  frontNumbers,
+}
 use Rattle.record.specs.Refusals.{badWhole, byteFaults, recordLines, recordRefusal}
 use Rattle.record.proofs.Arrays.{length-lamellaeIn}
 
 -- the bytes of an accepted record
 pub record Sound (b : List ℕ) : Type 0 where
-  pub length : number b 0 2 ≡ length b
-  pub version : number b 2 1 ≡ 1
+  pub front : frontNumbers (panelOf b) ≡ frontOf b
   pub boards : boardCount b ≤ 2
   pub count : lamellaCount b ≤ 9
-  pub whole : lib.ListN.length b ≡ 18 + 4 * boardCount b + 3 * lamellaCount b
+  pub whole : length b ≡ lengthWith (boardCount b) (lamellaCount b)
 
 -- a record is accepted exactly when no line about it fits, and a refusal is the first line that does
 pub record-accepted-iff : (b : List ℕ) → (recordRefusal b ≡ 0) ↔ NoneFits (recordLines b)
@@ -41,27 +53,9 @@ unfolding recordRefusal
 record-first b ne = refusal-first (recordLines b) ne
 
 -- an input longer than any record meets line 1, whatever it says of its length
-pub too-long : (b : List ℕ) → 53 < length b → recordRefusal b ≡ 1
+pub too-long : (b : List ℕ) → longest < length b → recordRefusal b ≡ 1
 unfolding recordRefusal
-too-long b h = rw (le-ltb (length b) 21 (omega arith), lt-ltb 53 (length b) h) refl
-
--- an accepted record meets no line, so that its bytes are sound
-pub accepted-sound : (b : List ℕ) → recordRefusal b ≡ 0 → Sound b
-unfolding recordRefusal panelOf
-accepted-sound b e =
-    let none = cause-none (recordLines b) tt e in
-    let one = or-none (outside 21 53 (length b)) (not (eqb (number b 0 2) (length b))) (none 1) in
-    let six = or-none (ltb 2 (boardCount b)) (ltb (length b) (21 + 4 * boardCount b)) (none 6) in
-    let ten = or-none (badWhole b) (badCount (lamellaCount b)) (none 10) in
-    record {
-      length = eqb-true (number b 0 2) (length b) (not-false (eqb (number b 0 2) (length b)) (one .1));
-      version = eqb-true (number b 2 1) 1 (not-false (eqb (number b 2 1) 1) (none 2));
-      boards = ltb-false 2 (boardCount b) (six .0);
-      count = in-range 1 9 (lamellaCount b) (ten .1) .1;
-      whole =
-          eqb-true (length b) (18 + 4 * boardCount b + 3 * lamellaCount b)
-          (not-false (eqb (length b) (18 + 4 * boardCount b + 3 * lamellaCount b)) (ten .0));
-    }
+too-long b h = rw (le-ltb (length b) shortest (omega arith), lt-ltb longest (length b) h) refl
 
 -- the panel of a record with at most two boards has as many boards as the record says
 pub boards-counted : (c : ℕ) (t : List ℕ) → c ≤ 2 → length (boardsOf (claddingAt c t)) ≡ c
@@ -70,18 +64,42 @@ boards-counted (suc zero) t h = refl
 boards-counted (suc (suc zero)) t h = refl
 boards-counted (suc (suc (suc c))) t h = absurd (let z : ⊥ = omega arith in z)
 
+-- an accepted record meets no line, so that its bytes are sound
+pub accepted-sound : (b : List ℕ) → recordRefusal b ≡ 0 → Sound b
+unfolding recordRefusal panelOf
+accepted-sound b e =
+    let none = cause-none (recordLines b) tt e in
+    let said : ℕ = getD (frontOf b) 0 0 in
+    let version : ℕ = getD (frontOf b) 1 0 in
+    let whole : ℕ = lengthWith (boardCount b) (lamellaCount b) in
+    let one = or-none (outside shortest longest (length b)) (not (eqb said (length b))) (none 1) in
+    let six = or-none (ltb 2 (boardCount b)) (ltb (length b) (lengthWith (boardCount b) 1)) (none 6) in
+    let ten = or-none (badWhole b) (badCount (lamellaCount b)) (none 10) in
+    let same : length b ≡ whole = eqb-true (length b) whole (not-false (eqb (length b) whole) (ten .0)) in
+    let boards : boardCount b ≤ 2 = ltb-false 2 (boardCount b) (six .0) in
+    let length-said : recordLength (panelOf b) ≡ said =
+    ap (λ (c : ℕ). lengthWith c (lamellaCount b)) (boards-counted (boardCount b) (body b) boards)
+    ∙ sym same
+    ∙ sym (eqb-true said (length b) (not-false (eqb said (length b)) (one .1)))
+    in
+    let one-said : 1 ≡ version = sym (eqb-true version 1 (not-false (eqb version 1) (none 2))) in
+    record {
+      front = λ i. length-said i ∷ one-said i ∷ [];
+      boards = boards;
+      count = in-range 1 9 (lamellaCount b) (ten .1) .1;
+      whole = same;
+    }
+
 -- the lamellae of a record's panel are those of its lamella bytes
 pub record-lamellae : (b : List ℕ) → lamellaCount b ≤ 9 → lamellae (panelOf b) ≡ lamellaeIn (lamellaPart b) (lamellaCount b)
 unfolding panelOf
 record-lamellae b h =
     let n = lamellaCount b in
     let u = lamellaPart b in
-    let ls = lamellaeIn u n in
     let least : min n 9 ≡ n = omega arith in
-    ap (λ (k : ℕ). lamellaeOf (nine (map (λ (l : Lamella). l .direction) (lamellaeIn u k)))
-    (nine (map (λ (l : Lamella). l .thickness) (lamellaeIn u k))) n) least
-    ∙ ap (lamellaeOf (nine (map (λ (l : Lamella). l .direction) ls)) (nine (map (λ (l : Lamella). l .thickness) ls))) (sym (length-lamellaeIn u n))
-    ∙ lamellaeOf-nine ls
+    ap (λ (k : ℕ). lamellaeOf (directionsOf (lamellaeIn u k)) (thicknessesOf (lamellaeIn u k)) n) least
+    ∙ ap (lamellaeOf (directionsOf (lamellaeIn u n)) (thicknessesOf (lamellaeIn u n))) (sym (length-lamellaeIn u n))
+    ∙ lamellae-with (panelOf b) (lamellaeIn u n)
 
 -- the panel of an accepted record is accepted
 pub record-panel : (b : List ℕ) → recordRefusal b ≡ 0 → panelRefusal (panelOf b) ≡ 0

@@ -3,137 +3,165 @@ use Prim.Native.Nat.{ℕ, zero, suc, _+_, _*_, _<_, _≤_, min}
 use mathlib.Core.Path.{_≡_, refl, sym, ap, ap₂, _∙_}
 use mathlib.Core.List.{List, [], _∷_, _++_, append-assoc}
 use native.Mathlib.Omega.{arith}
-use native.Mathlib.Nat.{mul-suc}
-use lib.ListN.{length, getD, length-append}
-use lib.Seq.{getD-at, drop-at}
-use Rattle.numbers.specs.Bytes.{number, fields, join}
-use Rattle.numbers.proofs.Digits.{number-cons, number-bytes}
+use lib.ListN.{length, getD, drop, length-append}
+use lib.Seq.{drop-at}
+use Rattle.numbers.specs.Bytes.{fields, join}
+use Rattle.numbers.proofs.Digits.{fields-after, length-join, fields-join}
 use Rattle.numbers.proofs.FirstValues.{firsts-getD}
+use Rattle.panel.specs.declared.Board.{Board}
 use Rattle.panel.specs.declared.Cladding.{Cladding}
 use Rattle.panel.specs.declared.Cladding.the-variants.{Unclad, One, Two}
 use Rattle.panel.specs.declared.Panel.{Panel}
 use Rattle.panel.specs.Lamellae.{Lamella, lamella, lamellae, cleared}
-use Rattle.panel.proofs.Used.{length-lamellaeOf}
+use Rattle.panel.proofs.Used.{count-cleared}
 use Rattle.panel.specs.Boards.{boardsOf}
 use Rattle.record.specs.Layouts.{
   frontWidths,
   headWidths,
+  boardWidths,
+  countWidths,
   lamellaWidths,
+  frontLength,
+  headLength,
+  boardLength,
+  lamellaLength,
+  countPlace,
+  lamellaPlace,
+  frontOf,
   body,
+  headOf,
   boardCount,
   lamellaCount,
   lamellaPart,
+  boardFrom,
+  boardAt,
+  claddingAt,
   lamellaFrom,
+  lamellaAt,
   lamellaeIn,
   recordLamellae,
   arraysOf,
-  claddingAt,
+  panelFrom,
+  panelOf,
+  frontNumbers,
+  headNumbers,
+  boardNumbers,
+  lamellaNumbers,
   boardBytes,
   lamellaBytes,
-  recordLength,
-  panelOf,
+  tailBytes,
   encode,
 }
 use Rattle.record.proofs.Lengths.{length-boardBytes}
 
--- three bytes in front move every place up by three
-number-past : (x y z : ℕ) (l : List ℕ) (at w : ℕ) → number (x ∷ y ∷ z ∷ l) (at + 3) w ≡ number l at w
-number-past x y z l at w =
-    let e : at + 3 ≡ at + 1 + 1 + 1 = omega arith in
-    ap (λ (k : ℕ). number (x ∷ y ∷ z ∷ l) k w) e
-    ∙ number-cons x (y ∷ z ∷ l) (at + 1 + 1) w
-    ∙ number-cons y (z ∷ l) (at + 1) w
-    ∙ number-cons z l at w
+-- Parts
 
 -- lamella i of the bytes of lamellae is lamella i
-lamella-there : (ls : List Lamella) (i : ℕ) (d : Lamella) → i < length ls → lamellaFrom (fields lamellaWidths (lamellaBytes ls) (3 * i)) ≡ getD ls i d
+lamella-there : (ls : List Lamella) (i : ℕ) (d : Lamella) → i < length ls → lamellaAt (lamellaBytes ls) i ≡ getD ls i d
 unfolding lamellaBytes
 lamella-there [] i d h = absurd (let z : ⊥ = omega arith in z)
-lamella-there (l ∷ ls) zero d h = ap (lamella (l .direction)) (number-bytes 1 (l .thickness))
+lamella-there (l ∷ ls) zero d h = ap lamellaFrom (fields-join lamellaWidths (lamellaNumbers l) (lamellaBytes ls) tt)
 lamella-there (l ∷ ls) (suc i) d h =
-    let b = lamellaBytes ls in
-    let e : 3 * suc i + 1 ≡ 3 * i + 1 + 3 = omega arith in
-    ap₂ lamella
-    (ap (λ (k : ℕ). number (lamellaBytes (l ∷ ls)) k 1) (mul-suc 3 i) ∙ number-past (l .direction) _ _ b (3 * i) 1)
-    (ap (λ (k : ℕ). number (lamellaBytes (l ∷ ls)) k 2) e ∙ number-past (l .direction) _ _ b (3 * i + 1) 2)
+    let x : List ℕ = join lamellaWidths (lamellaNumbers l) in
+    let e : lamellaLength * suc i ≡ length x + lamellaLength * i = omega arith in
+    ap (λ (k : ℕ). lamellaFrom (fields lamellaWidths (x ++ lamellaBytes ls) k)) e
+    ∙ ap lamellaFrom (fields-after lamellaWidths x (lamellaBytes ls) (lamellaLength * i))
     ∙ lamella-there ls i d (omega arith)
 
-pub lamellae-there : (ls : List Lamella) → lamellaeIn (lamellaBytes ls) (length ls) ≡ ls
+lamellae-there : (ls : List Lamella) → lamellaeIn (lamellaBytes ls) (length ls) ≡ ls
 unfolding lamellaeIn
-lamellae-there ls = firsts-getD (λ (i : ℕ). lamellaFrom (fields lamellaWidths (lamellaBytes ls) (3 * i))) ls (lamella 0 0)
-    (λ i h. lamella-there ls i (lamella 0 0) h)
+lamellae-there ls = firsts-getD (lamellaAt (lamellaBytes ls)) ls (lamella 0 0) (λ i h. lamella-there ls i (lamella 0 0) h)
 
--- the boards are read after any head
-pub cladding-there :
-    (c : Cladding) (v₀ v₁ v₂ v₃ v₄ v₅ v₆ : ℕ) (after : List ℕ)
-    → claddingAt (length (boardsOf c)) (join headWidths (v₀ ∷ v₁ ∷ v₂ ∷ v₃ ∷ v₄ ∷ v₅ ∷ v₆ ∷ []) ++ (boardBytes (boardsOf c) ++ after)) ≡ c
+-- a board is read where it was written, whatever stands before and after it
+board-there :
+    (before : List ℕ) (b : Board) (after : List ℕ) (i : ℕ) → length before ≡ headLength + boardLength * i
+    → boardAt (before ++ (join boardWidths (boardNumbers b) ++ after)) i ≡ b
+board-there before b after i e =
+    let bytes : List ℕ = join boardWidths (boardNumbers b) ++ after in
+    let at : headLength + boardLength * i ≡ length before + 0 = omega arith in
+    ap boardFrom
+    (ap (fields boardWidths (before ++ bytes)) at ∙ fields-after boardWidths before bytes 0 ∙ fields-join boardWidths (boardNumbers b) after tt)
+
+cladding-there :
+    (c : Cladding) (head after : List ℕ) → length head ≡ headLength
+    → claddingAt (length (boardsOf c)) (head ++ (boardBytes (boardsOf c) ++ after)) ≡ c
 unfolding boardBytes
-cladding-there Unclad v₀ v₁ v₂ v₃ v₄ v₅ v₆ after = refl
-cladding-there (One b) v₀ v₁ v₂ v₃ v₄ v₅ v₆ after =
-    λ i. One (record { kind = b .kind; thickness = number-bytes 1 (b .thickness) i; joint = b .joint })
-cladding-there (Two outer inner) v₀ v₁ v₂ v₃ v₄ v₅ v₆ after =
-    λ i.
-    Two (record { kind = outer .kind; thickness = number-bytes 1 (outer .thickness) i; joint = outer .joint })
-    (record { kind = inner .kind; thickness = number-bytes 1 (inner .thickness) i; joint = inner .joint })
+cladding-there Unclad head after e = refl
+cladding-there (One b) head after e = ap One (board-there head b after 0 e)
+cladding-there (Two outer inner) head after e =
+    let x : List ℕ = join boardWidths (boardNumbers outer) in
+    let y : List ℕ = join boardWidths (boardNumbers inner) ++ after in
+    ap₂ Two (board-there head outer y 0 e)
+    (ap (λ (t : List ℕ). boardAt t 1) (sym (append-assoc head x y))
+    ∙ board-there (head ++ x) inner after 1 (length-append head x ∙ ap (λ (k : ℕ). k + boardLength) e))
 
--- what stands before the number of lamellae in a panel's record
-abbrev before : Panel → List ℕ
-before p =
-    join frontWidths (recordLength p ∷ 1 ∷ [])
-    ++ join headWidths
-    (p .bond ∷ p .rate ∷ p .gap ∷ p .strength ∷ p .moment ∷ length (boardsOf (p .cladding)) ∷ p .«failure_time» ∷ [])
-    ++ boardBytes (boardsOf (p .cladding))
+-- The record of a panel
 
-length-before : (p : Panel) → length (before p) ≡ 17 + 4 * length (boardsOf (p .cladding))
-length-before p = omega (arith, length-boardBytes (boardsOf (p .cladding)))
+module _ (p : Panel) where
+  abbrev front : List ℕ
+  front = join frontWidths (frontNumbers p)
 
-pub count-there : (p : Panel) → lamellaCount (encode p) ≡ p .count
-unfolding encode
-count-there p =
-    ap (λ (l : List ℕ). getD l (17 + 4 * length (boardsOf (p .cladding))) 0)
-    (append-assoc (before p) (p .count ∷ []) (lamellaBytes (lamellae p)))
-    ∙ getD-at (before p) (p .count) (lamellaBytes (lamellae p)) 0 (17 + 4 * length (boardsOf (p .cladding))) (length-before p)
+  abbrev head : List ℕ
+  head = join headWidths (headNumbers p)
 
-pub part-there : (p : Panel) → lamellaPart (encode p) ≡ lamellaBytes (lamellae p)
-unfolding encode
-part-there p =
-    drop-at (before p ++ (p .count ∷ [])) (lamellaBytes (lamellae p)) (18 + 4 * length (boardsOf (p .cladding)))
-    (length-append (before p) (p .count ∷ []) ∙ omega (arith, length-before p))
+  abbrev boards : List ℕ
+  boards = boardBytes (boardsOf (p .cladding))
 
-pub record-lamellae-there : (p : Panel) → p .count ≤ 9 → recordLamellae (encode p) ≡ lamellae p
-record-lamellae-there p h =
-    let least : min (p .count) 9 ≡ p .count = omega arith in
-    ap₂ (λ (u : List ℕ) (n : ℕ). lamellaeIn u n) (part-there p)
-    (ap (λ (n : ℕ). min n 9) (count-there p) ∙ least ∙ sym (length-lamellaeOf (p .directions) (p .thicknesses) (p .count)))
-    ∙ lamellae-there (lamellae p)
+  -- what stands before the number of lamellae
+  abbrev before : List ℕ
+  before = front ++ (head ++ boards)
 
-boards-there : (p : Panel) → claddingAt (boardCount (encode p)) (body (encode p)) ≡ p .cladding
-unfolding encode
-boards-there p =
-    ap (λ (l : List ℕ). claddingAt (length (boardsOf (p .cladding))) (head ++ l))
-    (append-assoc (boardBytes (boardsOf (p .cladding))) (p .count ∷ []) (lamellaBytes (lamellae p)))
-    ∙ cladding-there (p .cladding) (p .bond) (p .rate) (p .gap) (p .strength) (p .moment) (length (boardsOf (p .cladding)))
-    (p .«failure_time») (p .count ∷ lamellaBytes (lamellae p))
-  where
-    head : List ℕ
-    head =
-        join headWidths
-        (p .bond ∷ p .rate ∷ p .gap ∷ p .strength ∷ p .moment ∷ length (boardsOf (p .cladding)) ∷ p .«failure_time» ∷ [])
+  length-before : length before ≡ countPlace (length (boardsOf (p .cladding)))
+  length-before = omega (arith, length-boardBytes (boardsOf (p .cladding)))
 
-pub panel-there : (p : Panel) → p .count ≤ 9 → panelOf (encode p) ≡ cleared p
-unfolding encode panelOf
-panel-there p h =
-    let ls = record-lamellae-there p h in
-    λ i.
-    record {
-      bond = p .bond;
-      rate = p .rate;
-      gap = p .gap;
-      strength = number-bytes 1 (p .strength) i;
-      moment = number-bytes 3 (p .moment) i;
-      «failure_time» = number-bytes 3 (p .«failure_time») i;
-      cladding = boards-there p i;
-      count = count-there p i;
-      directions = arraysOf (ls i) .directions;
-      thicknesses = arraysOf (ls i) .thicknesses;
-    }
+  encode-before : encode p ≡ before ++ tailBytes p
+  unfolding encode
+  encode-before = simp append-assoc
+
+  pub front-there : frontOf (encode p) ≡ frontNumbers p
+  unfolding encode
+  front-there = fields-join frontWidths (frontNumbers p) (head ++ (boards ++ tailBytes p)) tt
+
+  body-there : body (encode p) ≡ head ++ (boards ++ tailBytes p)
+  unfolding encode
+  body-there = drop-at front (head ++ (boards ++ tailBytes p)) frontLength (length-join frontWidths (frontNumbers p) tt)
+
+  head-there : headOf (encode p) ≡ headNumbers p
+  head-there =
+      ap (λ (t : List ℕ). fields headWidths t 0) body-there ∙ fields-join headWidths (headNumbers p) (boards ++ tailBytes p) tt
+
+  pub board-count-there : boardCount (encode p) ≡ length (boardsOf (p .cladding))
+  board-count-there = ap (λ (vs : List ℕ). getD vs 5 0) head-there
+
+  boards-there : claddingAt (boardCount (encode p)) (body (encode p)) ≡ p .cladding
+  boards-there =
+      ap₂ claddingAt board-count-there body-there
+      ∙ cladding-there (p .cladding) head (tailBytes p) (length-join headWidths (headNumbers p) tt)
+
+  pub count-there : lamellaCount (encode p) ≡ p .count
+  count-there =
+      let at : countPlace (length (boardsOf (p .cladding))) ≡ length before + 0 = omega (arith, length-before) in
+      ap₂ (λ (b : List ℕ) (c : ℕ). getD (fields countWidths b (countPlace c)) 0 0) encode-before board-count-there
+      ∙ ap (λ (vs : List ℕ). getD vs 0 0)
+      (ap (fields countWidths (before ++ tailBytes p)) at
+      ∙ fields-after countWidths before (tailBytes p) 0
+      ∙ fields-join countWidths (p .count ∷ []) (lamellaBytes (lamellae p)) tt)
+
+  part-there : lamellaPart (encode p) ≡ lamellaBytes (lamellae p)
+  part-there =
+      let count : List ℕ = join countWidths (p .count ∷ []) in
+      ap₂ (λ (b : List ℕ) (c : ℕ). drop (lamellaPlace c) b)
+      (encode-before ∙ sym (append-assoc before count (lamellaBytes (lamellae p)))) board-count-there
+      ∙ drop-at (before ++ count) (lamellaBytes (lamellae p)) (lamellaPlace (length (boardsOf (p .cladding))))
+      (length-append before count ∙ omega (arith, length-before))
+
+  record-lamellae-there : p .count ≤ 9 → recordLamellae (encode p) ≡ lamellae p
+  record-lamellae-there h =
+      let least : min (p .count) 9 ≡ p .count = omega arith in
+      ap₂ lamellaeIn part-there (ap (λ (n : ℕ). min n 9) count-there ∙ least ∙ sym (count-cleared p)) ∙ lamellae-there (lamellae p)
+
+  pub panel-there : p .count ≤ 9 → panelOf (encode p) ≡ cleared p
+  unfolding panelOf
+  panel-there h =
+      λ i.
+      panelFrom (head-there i) (boards-there i) ((count-there ∙ sym (count-cleared p)) i) (arraysOf (record-lamellae-there h i))

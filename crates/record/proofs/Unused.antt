@@ -6,7 +6,7 @@ use lib.ListN.{length}
 use lib.Dec.{ltb}
 use Rattle.panel.specs.declared.Panel.{Panel}
 use Rattle.panel.specs.Lamellae.{SameUsed}
-use Rattle.panel.proofs.Used.{same-lamellae}
+use Rattle.panel.proofs.Used.{lamellae-cleared, count-cleared, unused}
 use Rattle.limits.specs.Lines.{Line, line, refusal}
 use Rattle.limits.proofs.Unused.{lines-unused}
 use Rattle.record.specs.Layouts.{recordLength, encode}
@@ -14,14 +14,11 @@ use Rattle.record.specs.Refusals.{writeRefusal}
 use Rattle.record.specs.Answers.{writeAnswer, spaceAfter}
 
 length-unused : (p q : Panel) → SameUsed p q → recordLength p ≡ recordLength q
-length-unused p q h = rw (h .cladding, h .count) refl
+length-unused = unused recordLength (λ p. rw (count-cleared p) refl)
 
 encode-unused : (p q : Panel) → SameUsed p q → encode p ≡ encode q
 unfolding encode
-encode-unused p q h =
-    rw
-    (same-lamellae p q h, h .bond, h .gap, h .rate, h .strength, h .moment, h .failureTime, h .cladding, h .count)
-    refl
+encode-unused = unused encode (λ p. rw (lamellae-cleared p, count-cleared p) refl)
 
 write-refusal-unused : (p q : Panel) → SameUsed p q → (space : List ℕ) → writeRefusal p space ≡ writeRefusal q space
 unfolding writeRefusal

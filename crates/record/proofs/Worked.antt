@@ -1,5 +1,6 @@
--- The record of panel G with M 3,000, by computation: its bytes are its layout, and they are read as G. Assumes nothing.
-use Prim.Native.Nat.{ℕ}
+-- By computation: lengths and places are 01's numbers, and the bytes of panel G with M 3,000 are its record and are read as G.
+-- Assumes nothing.
+use Prim.Native.Nat.{ℕ, _+_, _*_}
 use mathlib.Core.Path.{_≡_, refl}
 use mathlib.Core.List.{List, [], _∷_}
 use Rattle.panel.specs.Lamellae.{lamellaeOf, thickness}
@@ -7,9 +8,50 @@ use Rattle.panel.specs.Worked.{g}
 use Rattle.section.specs.Sections.{countedFrom, total, lowest, highest, sectionOf}
 use Rattle.section.specs.Tests.{carries}
 use Rattle.limits.specs.Causes.{some}
-use Rattle.record.specs.Layouts.{lamellaeIn, boardBytes, lamellaBytes, panelOf, encode}
+use Rattle.record.specs.Layouts.{
+  frontLength,
+  headLength,
+  countPlace,
+  lamellaPlace,
+  lengthWith,
+  shortest,
+  longest,
+  lamellaeIn,
+  panelOf,
+  boardBytes,
+  lamellaBytes,
+  encode,
+}
 use Rattle.record.specs.Refusals.{recordRefusal}
 use Rattle.record.specs.Answers.{decode, reading}
+
+-- Lengths and places
+
+pub front-is : frontLength ≡ 3
+front-is = refl
+
+pub head-is : headLength ≡ 14
+head-is = refl
+
+-- where n stands without boards
+pub count-place-is : countPlace 0 ≡ 17
+count-place-is = refl
+
+-- "A slice part from 18 + 4c"
+pub lamella-place-is : (c : ℕ) → lamellaPlace c ≡ 18 + 4 * c
+lamella-place-is c = refl
+
+-- "The length is 18 + 4c + 3n, from 21 to 53."
+pub length-is : (c n : ℕ) → lengthWith c n ≡ 18 + 4 * c + 3 * n
+length-is c n = refl
+
+pub shortest-is : shortest ≡ 21
+shortest-is = refl
+
+pub longest-is : longest ≡ 53
+longest-is = refl
+
+-- The record of G
 
 -- length 27, version 1, bond 0, rate 65, gap 0, f 240, M 3,000, no boards, time 0, three lamellae
 pub gBytes : List ℕ

@@ -1,31 +1,19 @@
 -- What `read` and `write` answer, by document 01's number, and what `write` leaves in the lent space. 0 is no refusal.
 use Prim.Native.Nat.{ℕ}
-use mathlib.Core.List.{List, _++_}
-use lib.ListN.{drop, replicate}
+use mathlib.Core.List.{List, [], _++_}
+use lib.ListN.{drop}
 use Rattle.panel.specs.declared.Panel.{Panel}
 use Rattle.panel.specs.declared.Cladding.the-variants.{Unclad}
 use Rattle.record.specs.declared.Reading.{Reading}
 use Rattle.record.specs.declared.Writing.{Writing}
 use Rattle.record.specs.declared.Writing.the-variants.{Written, Refused}
 use Rattle.limits.specs.Lines.{answer}
-use Rattle.record.specs.Layouts.{panelOf, recordLength, encode}
+use Rattle.record.specs.Layouts.{arraysOf, panelFrom, panelOf, recordLength, encode}
 use Rattle.record.specs.Refusals.{recordRefusal, writeRefusal}
 
 -- the panel that stands beside a refusal: every number 0, no board, no lamella
 abbrev pub blank : Panel
-blank =
-    record {
-      bond = 0;
-      rate = 0;
-      gap = 0;
-      strength = 0;
-      moment = 0;
-      «failure_time» = 0;
-      cladding = Unclad;
-      count = 0;
-      directions = replicate 9 0;
-      thicknesses = replicate 9 0;
-    }
+blank = panelFrom [] Unclad 0 (arraysOf [])
 
 -- the answer of `read`: a refusal's number stands beside the blank panel
 abbrev pub reading : ℕ → Panel → Reading

@@ -1,16 +1,16 @@
--- Document 01, "The panel record": the layout, once, as widths in bytes. `panelOf` takes a record apart by it and `encode` puts
--- one together by it.
+-- Document 01, "The panel record": the layout, once, as widths in bytes, from which every length and place of a record follows.
+-- `panelOf` takes a record apart by it and `encode` puts one together by it.
 use Prim.Native.Nat.{ℕ, zero, suc, _+_, _*_, min}
-use mathlib.Core.List.{List, [], _∷_, _++_, map}
+use mathlib.Core.List.{List, [], _∷_, _++_}
 use lib.ListN.{length, getD, drop}
 use Rattle.numbers.specs.Firsts.{firsts}
-use Rattle.numbers.specs.Bytes.{fields, join}
+use Rattle.numbers.specs.Bytes.{fields, join, span}
 use Rattle.panel.specs.declared.Board.{Board}
 use Rattle.panel.specs.declared.Cladding.{Cladding}
 use Rattle.panel.specs.declared.Cladding.the-variants.{Unclad, One, Two}
 use Rattle.panel.specs.declared.Panel.{Panel}
 use Rattle.panel.specs.Boards.{boardsOf}
-use Rattle.panel.specs.Lamellae.{Lamella, lamellae, nine}
+use Rattle.panel.specs.Lamellae.{Lamella, lamellae, directionsOf, thicknessesOf}
 use Rattle.record.specs.declared.Lamellae.{Lamellae}
 
 -- The layout
@@ -35,44 +35,98 @@ countWidths = 1 ∷ []
 abbrev pub lamellaWidths : List ℕ
 lamellaWidths = 1 ∷ 2 ∷ []
 
+-- Lengths and places; that they are 01's numbers is proved in proofs/Worked
+
+-- 3 bytes
+abbrev pub frontLength : ℕ
+frontLength = span frontWidths
+
+-- 14 bytes
+abbrev pub headLength : ℕ
+headLength = span headWidths
+
+-- 4 bytes
+abbrev pub boardLength : ℕ
+boardLength = span boardWidths
+
+-- 1 byte
+abbrev pub countLength : ℕ
+countLength = span countWidths
+
+-- 3 bytes
+abbrev pub lamellaLength : ℕ
+lamellaLength = span lamellaWidths
+
+-- where n stands, after c boards: 17 + 4c
+abbrev pub countPlace : ℕ → ℕ
+countPlace c = frontLength + headLength + boardLength * c
+
+-- where the lamella bytes begin, "after the last board and the byte n": 18 + 4c
+abbrev pub lamellaPlace : ℕ → ℕ
+lamellaPlace c = frontLength + headLength + countLength + boardLength * c
+
+-- "The length is 18 + 4c + 3n": with c boards and n lamellae
+abbrev pub lengthWith : ℕ → ℕ → ℕ
+lengthWith c n = lamellaPlace c + lamellaLength * n
+
+-- "from 21": no board, one lamella
+abbrev pub shortest : ℕ
+shortest = lengthWith 0 1
+
+-- "to 53": two boards, nine lamellae
+abbrev pub longest : ℕ
+longest = lengthWith 2 9
+
 -- Reading: the numbers of a record b, whatever its length; a byte past its end counts as 0
 
--- what follows the version
-abbrev pub body : List ℕ → List ℕ
-body b = drop 3 b
+-- the front's numbers, in its order: length, version
+abbrev pub frontOf : List ℕ → List ℕ
+frontOf b = fields frontWidths b 0
 
--- number k of the head, in its order: bond, rate, gap, strength, moment, boards, failure time
-abbrev pub head : List ℕ → ℕ → ℕ
-head b k = getD (fields headWidths (body b) 0) k 0
+-- what follows the front
+abbrev pub body : List ℕ → List ℕ
+body b = drop frontLength b
+
+-- the head's numbers, in its order: bond, rate, gap, strength, moment, boards, failure time
+abbrev pub headOf : List ℕ → List ℕ
+headOf b = fields headWidths (body b) 0
 
 -- c, the number of boards
 abbrev pub boardCount : List ℕ → ℕ
-boardCount b = head b 5
+boardCount b = getD (headOf b) 5 0
 
 -- n, the number of lamellae, which follows the boards
 abbrev pub lamellaCount : List ℕ → ℕ
-lamellaCount b = getD (fields countWidths b (17 + 4 * boardCount b)) 0 0
+lamellaCount b = getD (fields countWidths b (countPlace (boardCount b))) 0 0
 
 -- "The lamella bytes are read as the part that begins after the last board and the byte n."
 abbrev pub lamellaPart : List ℕ → List ℕ
-lamellaPart b = drop (18 + 4 * boardCount b) b
+lamellaPart b = drop (lamellaPlace (boardCount b)) b
 
 abbrev pub boardFrom : List ℕ → Board
 boardFrom vs = record { kind = getD vs 0 0; thickness = getD vs 1 0; joint = getD vs 2 0 }
 
--- the boards after the head, which takes 14 bytes of the body t, each in four; more than two boards are refused by line 6
+-- board i of the body t, after the head
+abbrev pub boardAt : List ℕ → ℕ → Board
+boardAt t i = boardFrom (fields boardWidths t (headLength + boardLength * i))
+
+-- the boards of the body t; more than two are refused by line 6
 abbrev pub claddingAt : ℕ → List ℕ → Cladding
 claddingAt zero t = Unclad
-claddingAt (suc zero) t = One (boardFrom (fields boardWidths t 14))
-claddingAt (suc (suc c)) t = Two (boardFrom (fields boardWidths t 14)) (boardFrom (fields boardWidths t 18))
+claddingAt (suc zero) t = One (boardAt t 0)
+claddingAt (suc (suc c)) t = Two (boardAt t 0) (boardAt t 1)
 
 abbrev pub lamellaFrom : List ℕ → Lamella
 lamellaFrom vs = record { direction = getD vs 0 0; thickness = getD vs 1 0 }
 
--- the first n lamellae of the lamella bytes, each in three
+-- lamella i of the lamella bytes u
+abbrev pub lamellaAt : List ℕ → ℕ → Lamella
+lamellaAt u i = lamellaFrom (fields lamellaWidths u (lamellaLength * i))
+
+-- the first n of them
 unfoldable pub lamellaeIn : List ℕ → ℕ → List Lamella
 unfolding firsts
-lamellaeIn u n = firsts (λ (i : ℕ). lamellaFrom (fields lamellaWidths u (3 * i))) n
+lamellaeIn u n = firsts (lamellaAt u) n
 
 -- the lamellae of a record, of which an array of nine holds the first nine; more are refused by line 10
 abbrev pub recordLamellae : List ℕ → List Lamella
@@ -80,56 +134,59 @@ recordLamellae b = lamellaeIn (lamellaPart b) (min (lamellaCount b) 9)
 
 -- lamellae as a panel holds them
 abbrev pub arraysOf : List Lamella → Lamellae
-arraysOf ls =
+arraysOf ls = record { directions = directionsOf ls; thicknesses = thicknessesOf ls }
+
+-- a panel from the head's numbers, the boards, n and the lamellae
+abbrev pub panelFrom : List ℕ → Cladding → ℕ → Lamellae → Panel
+panelFrom vs boards n arrays =
     record {
-      directions = nine (map (λ (l : Lamella). l .direction) ls);
-      thicknesses = nine (map (λ (l : Lamella). l .thickness) ls);
+      bond = getD vs 0 0;
+      rate = getD vs 1 0;
+      gap = getD vs 2 0;
+      strength = getD vs 3 0;
+      moment = getD vs 4 0;
+      «failure_time» = getD vs 6 0;
+      cladding = boards;
+      count = n;
+      directions = arrays .directions;
+      thicknesses = arrays .thicknesses;
     }
 
 -- the panel that stands in a record
 unfoldable pub panelOf : List ℕ → Panel
-panelOf b =
-    record {
-      bond = head b 0;
-      rate = head b 1;
-      gap = head b 2;
-      strength = head b 3;
-      moment = head b 4;
-      «failure_time» = head b 6;
-      cladding = claddingAt (boardCount b) (body b);
-      count = lamellaCount b;
-      directions = arraysOf (recordLamellae b) .directions;
-      thicknesses = arraysOf (recordLamellae b) .thicknesses;
-    }
+panelOf b = panelFrom (headOf b) (claddingAt (boardCount b) (body b)) (lamellaCount b) (arraysOf (recordLamellae b))
 
--- Writing
+-- Writing: the numbers of each part, in its order, and their bytes
+
+abbrev pub recordLength : Panel → ℕ
+recordLength p = lengthWith (length (boardsOf (p .cladding))) (p .count)
+
+abbrev pub frontNumbers : Panel → List ℕ
+frontNumbers p = recordLength p ∷ 1 ∷ []
+
+abbrev pub headNumbers : Panel → List ℕ
+headNumbers p =
+    p .bond ∷ p .rate ∷ p .gap ∷ p .strength ∷ p .moment ∷ length (boardsOf (p .cladding)) ∷ p .«failure_time» ∷ []
+
+abbrev pub boardNumbers : Board → List ℕ
+boardNumbers b = b .kind ∷ b .thickness ∷ b .joint ∷ []
+
+abbrev pub lamellaNumbers : Lamella → List ℕ
+lamellaNumbers l = l .direction ∷ l .thickness ∷ []
 
 unfoldable pub boardBytes : List Board → List ℕ
 boardBytes [] = []
-boardBytes (b ∷ bs) = join boardWidths (b .kind ∷ b .thickness ∷ b .joint ∷ []) ++ boardBytes bs
+boardBytes (b ∷ bs) = join boardWidths (boardNumbers b) ++ boardBytes bs
 
 unfoldable pub lamellaBytes : List Lamella → List ℕ
 lamellaBytes [] = []
-lamellaBytes (l ∷ ls) = join lamellaWidths (l .direction ∷ l .thickness ∷ []) ++ lamellaBytes ls
+lamellaBytes (l ∷ ls) = join lamellaWidths (lamellaNumbers l) ++ lamellaBytes ls
 
--- "The length is 18 + 4c + 3n"
-abbrev pub recordLength : Panel → ℕ
-recordLength p = 18 + 4 * length (boardsOf (p .cladding)) + 3 * p .count
+-- n, then each lamella
+abbrev pub tailBytes : Panel → List ℕ
+tailBytes p = join countWidths (p .count ∷ []) ++ lamellaBytes (lamellae p)
 
 -- the record of a panel
 unfoldable pub encode : Panel → List ℕ
 encode p =
-    join frontWidths (recordLength p ∷ 1 ∷ [])
-    ++ join headWidths
-    (p .bond
-    ∷ p .rate
-    ∷ p .gap
-    ∷ p .strength
-    ∷ p .moment
-    ∷ length (boardsOf (p .cladding))
-    ∷ p .«failure_time»
-    ∷ []
-    )
-    ++ boardBytes (boardsOf (p .cladding))
-    ++ join countWidths (p .count ∷ [])
-    ++ lamellaBytes (lamellae p)
+    join frontWidths (frontNumbers p) ++ (join headWidths (headNumbers p) ++ (boardBytes (boardsOf (p .cladding)) ++ tailBytes p))

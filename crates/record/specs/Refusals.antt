@@ -1,32 +1,31 @@
 -- Document 01, "Where a record is turned back": the whole table for a record, and for the writer.
-use Prim.Native.Nat.{ℕ, _+_, _*_}
+use Prim.Native.Nat.{ℕ}
 use mathlib.Core.List.{List, [], _∷_, _++_}
 use mathlib.Core.Bool.{Bool, not, _||_}
 use lib.ListN.{length, getD}
 use lib.Dec.{eqb, ltb}
 use Rattle.numbers.specs.Choice.{outside}
-use Rattle.numbers.specs.Bytes.{fields}
 use Rattle.panel.specs.declared.Panel.{Panel}
 use Rattle.limits.specs.Lines.{Line, line, refusal}
 use Rattle.limits.specs.declared.ByteFaults.{ByteFaults}
 use Rattle.limits.specs.Refusals.{tableLines, panelLines}
-use Rattle.record.specs.Layouts.{frontWidths, boardCount, lamellaCount, panelOf, recordLength}
+use Rattle.record.specs.Layouts.{lengthWith, shortest, longest, frontOf, boardCount, lamellaCount, panelOf, recordLength}
 
 -- 1, length: "fewer than 21 or more than 53 bytes, or length not the bytes given"
 abbrev pub badLength : List ℕ → Bool
-badLength b = outside 21 53 (length b) || not (eqb (getD (fields frontWidths b 0) 0 0) (length b))
+badLength b = outside shortest longest (length b) || not (eqb (getD (frontOf b) 0 0) (length b))
 
 -- 2, version: "not 1"
 abbrev pub badVersion : List ℕ → Bool
-badVersion b = not (eqb (getD (fields frontWidths b 0) 1 0) 1)
+badVersion b = not (eqb (getD (frontOf b) 1 0) 1)
 
 -- 6, board count: "above 2, or record shorter than 21 + 4c"
 abbrev pub badBoardCount : List ℕ → Bool
-badBoardCount b = ltb 2 (boardCount b) || ltb (length b) (21 + 4 * boardCount b)
+badBoardCount b = ltb 2 (boardCount b) || ltb (length b) (lengthWith (boardCount b) 1)
 
 -- 10, lamella count: "or length not 18 + 4c + 3n"
 abbrev pub badWhole : List ℕ → Bool
-badWhole b = not (eqb (length b) (18 + 4 * boardCount b + 3 * lamellaCount b))
+badWhole b = not (eqb (length b) (lengthWith (boardCount b) (lamellaCount b)))
 
 -- what the bytes b say beside the panel that stands in them
 abbrev pub byteFaults : List ℕ → ByteFaults

@@ -1,5 +1,6 @@
 // The panel record of document 01: its layout, the reader and the writer, and the lines that turn a record back.
 pub mod calls;
+mod layout;
 mod lines;
 mod reader;
 mod writer;

@@ -1,4 +1,5 @@
 // The lines about a record's bytes.
+use crate::layout;
 use crate::reader::board_count;
 use crate::reader::lamella_count;
 use limits::ByteFaults;
@@ -11,20 +12,20 @@ fn bad_length(s: &[u8]) -> bool
     ensures { λ r. ⌜ r ≡ badLength (now (s .entry)) ⌝ }
 {
     let n = s.len();
-    ((n < 21) | (53 < n)) | !(get16(s, 0) as usize == n)
+    ((n < layout::SHORTEST) | (layout::LONGEST < n)) | !(get16(s, layout::LENGTH) as usize == n)
 }
 
 fn bad_version(s: &[u8]) -> bool
     ensures { λ r. ⌜ r ≡ badVersion (now (s .entry)) ⌝ }
 {
-    !(get8(s, 2) == 1)
+    !(get8(s, layout::VERSION) == 1)
 }
 
 fn bad_board_count(s: &[u8]) -> bool
     ensures { λ r. ⌜ r ≡ badBoardCount (now (s .entry)) ⌝ }
 {
     let c = board_count(s);
-    (2 < c) | (s.len() < 21 + 4 * c)
+    (2 < c) | (s.len() < layout::length_with(c, 1))
 }
 
 fn bad_whole(s: &[u8]) -> bool
@@ -32,7 +33,7 @@ fn bad_whole(s: &[u8]) -> bool
 {
     let c = board_count(s);
     let n = lamella_count(s);
-    !(s.len() == 18 + 4 * c + 3 * n)
+    !(s.len() == layout::length_with(c, n))
 }
 
 // What the bytes say beside the panel that stands in them.

@@ -1,4 +1,5 @@
 // Puts a record together by the layout.
+use crate::layout;
 use numbers::bytes::put8;
 use numbers::bytes::put16;
 use numbers::bytes::put32;
@@ -6,14 +7,14 @@ use panel::Board;
 use panel::Cladding;
 use panel::Panel;
 ghost use mathlib.Core.Path.{_≡_};
-ghost use mathlib.Core.List.{[], _∷_, _++_};
+ghost use mathlib.Core.List.{[], _∷_};
 ghost use Prim.Native.Nat.{_+_, _*_, _≤_};
 ghost use lib.ListN.{length};
 ghost use lib.Seq.{sets};
 ghost use Rattle.numbers.specs.Bytes.{join};
-ghost use Rattle.panel.specs.Lamellae.{lamellae, lamellaeOf};
+ghost use Rattle.panel.specs.Lamellae.{lamella, lamellaeOf};
 ghost use Rattle.panel.specs.Boards.{boardsOf};
-ghost use Rattle.record.specs.Layouts.{frontWidths, headWidths, boardWidths, countWidths, lamellaWidths, boardBytes, lamellaBytes, recordLength, encode};
+ghost use Rattle.record.specs.Layouts.{frontWidths, headWidths, boardWidths, lamellaWidths, frontLength, headLength, boardLength, countLength, lamellaLength, longest, recordLength, frontNumbers, headNumbers, boardNumbers, lamellaNumbers, boardBytes, lamellaBytes, tailBytes, encode};
 
 fn boards_of(c: Cladding) -> usize
     ensures { λ r. ⌜ (r ≡ length (boardsOf c)) × (r ≤ 2) ⌝ }
@@ -26,24 +27,24 @@ fn boards_of(c: Cladding) -> usize
 }
 
 fn put_board(out: &mut [u8], at: usize, b: Board)
-    requires { ⌜ at + 4 ≤ length (now out) ⌝ }
-    ensures { λ _. ⌜ now (out .exit) ≡ sets (now (out .entry)) at (join boardWidths (b .kind ∷ b .thickness ∷ b .joint ∷ [])) ⌝ }
+    requires { ⌜ at + boardLength ≤ length (now out) ⌝ }
+    ensures { λ _. ⌜ now (out .exit) ≡ sets (now (out .entry)) at (join boardWidths (boardNumbers b)) ⌝ }
 {
     put8(out, at, b.kind);
-    put16(out, at + 1, b.thickness);
-    put8(out, at + 3, b.joint);
+    put16(out, at + layout::BOARD_THICKNESS, b.thickness);
+    put8(out, at + layout::JOINT, b.joint);
 }
 
 fn put_two(out: &mut [u8], at: usize, outer: Board, inner: Board)
-    requires { ⌜ at + 8 ≤ length (now out) ⌝ }
+    requires { ⌜ at + boardLength * 2 ≤ length (now out) ⌝ }
     ensures { λ _. ⌜ now (out .exit) ≡ sets (now (out .entry)) at (boardBytes (outer ∷ inner ∷ [])) ⌝ }
 {
     put_board(out, at, outer);
-    put_board(out, at + 4, inner);
+    put_board(out, at + layout::BOARD, inner);
 }
 
 fn put_cladding(out: &mut [u8], at: usize, c: Cladding)
-    requires { ⌜ at + 4 * length (boardsOf c) ≤ length (now out) ⌝ }
+    requires { ⌜ at + boardLength * length (boardsOf c) ≤ length (now out) ⌝ }
     ensures { λ _. ⌜ now (out .exit) ≡ sets (now (out .entry)) at (boardBytes (boardsOf c)) ⌝ }
 {
     match c {
@@ -54,63 +55,65 @@ fn put_cladding(out: &mut [u8], at: usize, c: Cladding)
 }
 
 fn put_lamella(out: &mut [u8], at: usize, direction: u8, thickness: u16)
-    requires { ⌜ at + 3 ≤ length (now out) ⌝ }
-    ensures { λ _. ⌜ now (out .exit) ≡ sets (now (out .entry)) at (join lamellaWidths (direction ∷ thickness ∷ [])) ⌝ }
+    requires { ⌜ at + lamellaLength ≤ length (now out) ⌝ }
+    ensures { λ _. ⌜ now (out .exit) ≡ sets (now (out .entry)) at (join lamellaWidths (lamellaNumbers (lamella direction thickness))) ⌝ }
 {
     put8(out, at, direction);
-    put16(out, at + 1, thickness);
+    put16(out, at + layout::THICKNESS, thickness);
 }
 
 fn put_lamellae(out: &mut [u8], at: usize, directions: [u8; 9], thicknesses: [u16; 9], count: usize)
-    requires { ⌜ (count ≤ 9) × (at + 3 * count ≤ length (now out)) ⌝ }
+    requires { ⌜ (count ≤ 9) × (at + lamellaLength * count ≤ length (now out)) ⌝ }
     ensures { λ _. ⌜ now (out .exit) ≡ sets (now (out .entry)) at (lamellaBytes (lamellaeOf directions thicknesses count)) ⌝ }
 {
     let mut i = 0;
     while i < count {
-        put_lamella(out, at + 3 * i, directions[i], thicknesses[i]);
+        put_lamella(out, at + layout::LAMELLA * i, directions[i], thicknesses[i]);
         i += 1;
     }
 }
 
-fn put_head(out: &mut [u8], at: usize, p: Panel, boards: u8)
-    requires { ⌜ at + 14 ≤ length (now out) ⌝ }
-    ensures { λ _. ⌜ now (out .exit) ≡ sets (now (out .entry)) at (join headWidths (p .bond ∷ p .rate ∷ p .gap ∷ p .strength ∷ p .moment ∷ boards ∷ p .«failure_time» ∷ [])) ⌝ }
+fn put_head(out: &mut [u8], at: usize, p: Panel)
+    requires { ⌜ at + headLength ≤ length (now out) ⌝ }
+    ensures { λ _. ⌜ now (out .exit) ≡ sets (now (out .entry)) at (join headWidths (headNumbers p)) ⌝ }
 {
+    let c = p.cladding;
+    let boards = boards_of(c) as u8;
     put8(out, at, p.bond);
-    put8(out, at + 1, p.rate);
-    put8(out, at + 2, p.gap);
-    put16(out, at + 3, p.strength);
-    put32(out, at + 5, p.moment);
-    put8(out, at + 9, boards);
-    put32(out, at + 10, p.failure_time);
-}
-
-fn put_front(out: &mut [u8], bytes: u16)
-    requires { ⌜ 3 ≤ length (now out) ⌝ }
-    ensures { λ _. ⌜ now (out .exit) ≡ sets (now (out .entry)) 0 (join frontWidths (bytes ∷ 1 ∷ [])) ⌝ }
-{
-    put16(out, 0, bytes);
-    put8(out, 2, 1);
+    put8(out, at + layout::RATE, p.rate);
+    put8(out, at + layout::GAP, p.gap);
+    put16(out, at + layout::STRENGTH, p.strength);
+    put32(out, at + layout::MOMENT, p.moment);
+    put8(out, at + layout::BOARDS, boards);
+    put32(out, at + layout::FAILURE_TIME, p.failure_time);
 }
 
 // The number n of lamellae, then each lamella.
 fn put_tail(out: &mut [u8], at: usize, p: Panel)
-    requires { ⌜ (p .count ≤ 9) × (at + 1 + 3 * p .count ≤ length (now out)) ⌝ }
-    ensures { λ _. ⌜ now (out .exit) ≡ sets (now (out .entry)) at (join countWidths (p .count ∷ []) ++ lamellaBytes (lamellae p)) ⌝ }
+    requires { ⌜ (p .count ≤ 9) × (at + countLength + lamellaLength * p .count ≤ length (now out)) ⌝ }
+    ensures { λ _. ⌜ now (out .exit) ≡ sets (now (out .entry)) at (tailBytes p) ⌝ }
 {
     let directions = p.directions;
     let thicknesses = p.thicknesses;
     put8(out, at, p.count as u8);
-    put_lamellae(out, at + 1, directions, thicknesses, p.count);
+    put_lamellae(out, at + layout::COUNT, directions, thicknesses, p.count);
 }
 
 // The length of a panel's record. No open call: the count must be at most 9.
 pub(crate) fn record_length(p: Panel) -> usize
     requires { ⌜ p .count ≤ 9 ⌝ }
-    ensures { λ r. ⌜ (r ≡ recordLength p) × (r ≤ 53) ⌝ }
+    ensures { λ r. ⌜ (r ≡ recordLength p) × (r ≤ longest) ⌝ }
 {
     let c = p.cladding;
-    18 + 4 * boards_of(c) + 3 * p.count
+    layout::length_with(boards_of(c), p.count)
+}
+
+fn put_front(out: &mut [u8], p: Panel)
+    requires { ⌜ (p .count ≤ 9) × (frontLength ≤ length (now out)) ⌝ }
+    ensures { λ _. ⌜ now (out .exit) ≡ sets (now (out .entry)) 0 (join frontWidths (frontNumbers p)) ⌝ }
+{
+    put16(out, layout::LENGTH, record_length(p) as u16);
+    put8(out, layout::VERSION, 1);
 }
 
 // Stores a panel's record at the start of the space. No open call: the count must be at most 9, and the record must fit.
@@ -120,8 +123,8 @@ pub(crate) fn put_record(out: &mut [u8], p: Panel)
 {
     let c = p.cladding;
     let boards = boards_of(c);
-    put_front(out, record_length(p) as u16);
-    put_head(out, 3, p, boards as u8);
-    put_cladding(out, 17, c);
-    put_tail(out, 17 + 4 * boards, p);
+    put_front(out, p);
+    put_head(out, layout::FRONT, p);
+    put_cladding(out, layout::FRONT + layout::HEAD, c);
+    put_tail(out, layout::count_place(boards), p);
 }

@@ -1,13 +1,13 @@
--- `record::lines::bad_board_count` meets its contract by what `board_count` says.
+-- `record::lines::bad_board_count` meets its contract by what `board_count` and `length_with` say.
 -- Assumes nothing.
 use borrow.Author.Needs.{needs}
 use Rattle.record.proofs.lines.bad_board_count.Statement.{statement}
 use Rattle.record.proofs.lines.bad_board_count.Tie as tie
 
 returns : tie.Need-returns
-returns c = rw (c .board-count .ensures .0)
+returns c = rw (c .length-with .ensures, c .before .board-count .ensures .0)
 
 pub bad-board-count-spec : {M : Type 1} → statement M
 bad-board-count-spec =
     tie.close
-    (tie.spec (λ c κs. search needs) (λ c. search needs) (λ c. search needs) returns)
+    (tie.spec (λ c κs. search needs) (λ c κs. search needs) returns)

@@ -1,12 +1,12 @@
--- `record::lines::bad_whole` meets its contract by what the counts are. Assumes nothing.
+-- `record::lines::bad_whole` meets its contract by what the counts and `length_with` say. Assumes nothing.
 use borrow.Author.Needs.{needs}
 use Rattle.record.proofs.lines.bad_whole.Statement.{statement}
 use Rattle.record.proofs.lines.bad_whole.Tie as tie
 
 returns : tie.Need-returns
-returns c = rw (c .before .board-count .ensures .0, c .lamella-count .ensures .0)
+returns c = rw (c .length-with .ensures, c .before .before .board-count .ensures .0, c .before .lamella-count .ensures .0)
 
 pub bad-whole-spec : {M : Type 1} → statement M
 bad-whole-spec =
     tie.close
-    (tie.spec (λ c κs. search needs) (λ c κs. search needs) (λ c. search needs) (λ c. search needs) (λ c. search needs) (λ c. search needs) returns)
+    (tie.spec (λ c κs. search needs) (λ c κs. search needs) (λ c κs. search needs) returns)

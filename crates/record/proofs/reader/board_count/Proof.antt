@@ -1,6 +1,8 @@
--- `record::reader::board_count` meets its contract: the byte at place 9 of the body.
+-- `record::reader::board_count` meets its contract: number 5 of the head, which is a byte.
 -- Assumes nothing.
 use Prim.Native.Nat.{ℕ}
+use Rattle.numbers.specs.Bytes.{fields}
+use Rattle.record.specs.Layouts.{headWidths}
 use borrow.Author.Needs.{needs}
 use lib.ListN.{getD}
 use mathlib.Core.List.{List}
@@ -10,7 +12,7 @@ use Rattle.record.proofs.reader.board_count.Tie as tie
 
 returns : tie.Need-returns
 returns c =
-    (c .widen .ensures .0 ∙ c .before .get8 .ensures ∙ ap (λ (t : List ℕ). getD t 9 0) (c .before .before .part-from .ensures), search needs)
+    (c .widen .ensures .0 ∙ c .before .get8 .ensures ∙ ap (λ (t : List ℕ). getD (fields headWidths t 0) 5 0) (c .before .before .part-from .ensures), search needs)
 
 pub board-count-spec : {M : Type 1} → statement M
 board-count-spec =

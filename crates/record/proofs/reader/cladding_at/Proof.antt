@@ -2,8 +2,7 @@
 -- Assumes nothing.
 use Prim.Native.Nat.{ℕ, zero, suc}
 use Rattle.panel.specs.declared.Cladding.the-variants.{One, Two}
-use Rattle.numbers.specs.Bytes.{fields}
-use Rattle.record.specs.Layouts.{boardWidths, boardFrom, claddingAt}
+use Rattle.record.specs.Layouts.{boardAt, claddingAt}
 use borrow.Author.Needs.{needs}
 use denote.Ref.{now}
 use mathlib.Core.List.{List}
@@ -14,7 +13,7 @@ use Rattle.record.proofs.reader.cladding_at.Tie as tie
 -- more than one board is read as two
 two-boards :
     (c : ℕ) (t : List ℕ) → (c ≡ 0 → ⊥) → (c ≡ 1 → ⊥)
-    → Two (boardFrom (fields boardWidths t 14)) (boardFrom (fields boardWidths t 18)) ≡ claddingAt c t
+    → Two (boardAt t 0) (boardAt t 1) ≡ claddingAt c t
 two-boards zero t ne ne1 = absurd (ne refl)
 two-boards (suc zero) t ne ne1 = absurd (ne1 refl)
 two-boards (suc (suc c)) t ne ne1 = refl

@@ -1,6 +1,7 @@
 -- `record::reader::lamella_count` meets its contract: the byte after the boards.
 -- Assumes nothing.
-use Prim.Native.Nat.{ℕ, _+_, _*_}
+use Prim.Native.Nat.{ℕ}
+use Rattle.record.specs.Layouts.{countPlace}
 use borrow.Author.Needs.{needs}
 use denote.Ref.{now}
 use lib.ListN.{getD}
@@ -10,14 +11,14 @@ use Rattle.record.proofs.reader.lamella_count.Tie as tie
 
 returns : tie.Need-returns
 returns c =
-    let s = now (c .before .before .before .before .args .s) in (
-      c .widen .ensures .0 ∙ c .before .get8 .ensures ∙ ap (λ (k : ℕ). getD s (17 + 4 * k) 0)
-          (c .before .before .board-count .ensures .0),
+    let boards = c .before .before .before in
+    let s = now (boards .before .before .args .s) in (
+      c .widen .ensures .0 ∙ c .before .get8 .ensures ∙ ap (λ (k : ℕ). getD s k 0)
+          (c .before .before .count-place .ensures ∙ ap countPlace (boards .board-count .ensures .0)),
       search needs,
     )
 
 pub lamella-count-spec : {M : Type 1} → statement M
 lamella-count-spec =
     tie.close
-    (tie.spec (λ c κs. search needs) (λ c. search needs) (λ c. search needs) (λ c κs. search needs)
-    (λ c κs. search needs) (λ c. search needs) returns)
+    (tie.spec (λ c κs. search needs) (λ c κs. search needs) (λ c κs. search needs) (λ c κs. search needs) (λ c. search needs) returns)

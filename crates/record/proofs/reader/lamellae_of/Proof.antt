@@ -1,7 +1,7 @@
--- `record::reader::lamellae_of` meets its contract: the lamella bytes are the part from 18 + 4c on.
+-- `record::reader::lamellae_of` meets its contract: the lamella bytes are the part from `lamellaPlace` on.
 -- Assumes nothing.
-use Prim.Native.Nat.{ℕ, _+_, _*_, min}
-use Rattle.record.specs.Layouts.{lamellaeIn, arraysOf}
+use Prim.Native.Nat.{ℕ, min}
+use Rattle.record.specs.Layouts.{lamellaPlace, lamellaeIn, arraysOf}
 use borrow.Author.Needs.{needs}
 use denote.Ref.{now}
 use lib.ListN.{drop}
@@ -12,17 +12,16 @@ use Rattle.record.proofs.reader.lamellae_of.Tie as tie
 
 returns : tie.Need-returns
 returns c =
-    let c3 = c .before .before .before in
-    let c4 = c3 .before in
-    let c6 = c4 .before .before in
-    let b = now (c6 .args .s) in
+    let count = c .before .before .before in
+    let boards = count .before .before in
+    let b = now (boards .before .before .args .s) in
     c .lamellae-in .ensures
     ∙ ap₂ (λ (u : List ℕ) (n : ℕ). arraysOf (lamellaeIn u n))
-    (c .before .part-from .ensures ∙ ap (λ (c : ℕ). drop (18 + 4 * c) b) (c4 .board-count .ensures .0))
-    (c .before .before .lesser .ensures .0 ∙ ap (λ (n : ℕ). min n 9) (c3 .lamella-count .ensures .0))
+    (c .before .part-from .ensures
+    ∙ ap (λ (k : ℕ). drop k b) (count .before .lamella-place .ensures ∙ ap lamellaPlace (boards .board-count .ensures .0)))
+    (c .before .before .lesser .ensures .0 ∙ ap (λ (n : ℕ). min n 9) (count .lamella-count .ensures .0))
 
 pub lamellae-of-spec : {M : Type 1} → statement M
 lamellae-of-spec =
     tie.close
-    (tie.spec (λ c κs. search needs) (λ c. search needs) (λ c. search needs) (λ c κs. search needs)
-    (λ c κs. search needs) (λ c κs. search needs) (λ c κs. search needs) returns)
+    (tie.spec (λ c κs. search needs) (λ c κs. search needs) (λ c κs. search needs) (λ c κs. search needs) (λ c κs. search needs) (λ c κs. search needs) returns)

@@ -5,6 +5,7 @@ use Rattle.numbers.proofs.Lists.{then-put}
 use Rattle.numbers.specs.Bytes.{bytes}
 use borrow.Author.Needs.{needs}
 use denote.Ref.{now}
+use lib.ListN.{length}
 use mathlib.Core.List.{List}
 use mathlib.Core.Path.{refl}
 use Rattle.record.proofs.writer.put_lamella.Statement.{statement}
@@ -17,7 +18,7 @@ returns c =
     let l = now (c9 .args .out) in
     let at = c9 .args .at in
     let v₁ : List ℕ = bytes 1 (c9 .args .direction) in
-    then-put l (c6 .put8 .last .0) (c .before .before .put16 .last .0) at v₁ (at + 1) (bytes 2 (c9 .args .thickness))
+    then-put l (c6 .put8 .last .0) (c .before .before .put16 .last .0) at v₁ (at + length v₁) (bytes 2 (c9 .args .thickness))
     (c6 .put8 .ensures) refl (c .before .before .put16 .ensures)
 
 pub put-lamella-spec : {M : Type 1} → statement M

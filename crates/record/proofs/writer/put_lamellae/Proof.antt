@@ -6,12 +6,11 @@ use Rattle.numbers.specs.Bytes.{join}
 use Rattle.panel.proofs.Used.{length-lamellaeOf}
 use Rattle.panel.specs.Lamellae.{lamella, lamellaeOf}
 use Rattle.record.proofs.Lengths.{length-lamellaBytes, lamellaBytes-more}
-use Rattle.record.specs.Layouts.{lamellaWidths, lamellaBytes}
+use Rattle.record.specs.Layouts.{lamellaWidths, lamellaLength, lamellaNumbers, lamellaBytes}
 use borrow.Author.Needs.{needs}
 use denote.Ref.{now}
 use lib.ListN.{length, getD}
 use lib.Seq.{sets}
-use mathlib.Core.List.{[], _∷_}
 use mathlib.Core.Path.{refl, sym, ap, _∙_, _≡_}
 use native.Mathlib.Numerals.{add-one}
 use native.Mathlib.Omega.{arith}
@@ -40,12 +39,12 @@ loop-again c =
     let i = l .loop .i in
     let xs = lamellaeOf gs ts i in
     let x = lamella (getD gs i 0) (getD ts i 0) in
-    let e : args .at + 3 * i ≡ args .at + length (lamellaBytes xs) = omega (arith, length-lamellaBytes xs, length-lamellaeOf gs ts i) in (
+    let e : args .at + lamellaLength * i ≡ args .at + length (lamellaBytes xs) = omega (arith, length-lamellaBytes xs, length-lamellaeOf gs ts i) in (
       omega arith,
       (
         put .kept .0 ∙ l .loop .inv .1 .0,
-        then-put (now (args .out)) (l .loop .out) (put .last .0) (args .at) (lamellaBytes xs) (args .at + 3 * i)
-            (join lamellaWidths (getD gs i 0 ∷ getD ts i 0 ∷ []))
+        then-put (now (args .out)) (l .loop .out) (put .last .0) (args .at) (lamellaBytes xs) (args .at + lamellaLength * i)
+            (join lamellaWidths (lamellaNumbers x))
             (l .loop .inv .1 .1) e (put .ensures)
             ∙ ap (sets (now (args .out)) (args .at)) (sym (lamellaBytes-more xs x)
             ∙ ap (λ (k : ℕ). lamellaBytes (lamellaeOf gs ts k)) (sym (add-one i))),

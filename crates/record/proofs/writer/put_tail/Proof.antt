@@ -4,7 +4,7 @@ use Prim.Native.Nat.{ℕ, _+_}
 use Rattle.numbers.proofs.Lists.{then-put}
 use Rattle.numbers.specs.Bytes.{bytes}
 use Rattle.panel.specs.Lamellae.{lamellae}
-use Rattle.record.specs.Layouts.{lamellaBytes}
+use Rattle.record.specs.Layouts.{countLength, lamellaBytes}
 use borrow.Author.Needs.{needs}
 use denote.Ref.{now}
 use mathlib.Core.List.{List}
@@ -20,7 +20,7 @@ returns c =
     let at = c12 .args .at in
     let p = c12 .args .p in
     let v₁ : List ℕ = bytes 1 (p .count) in
-    then-put l (c6 .put8 .last .0) (c .before .before .put-lamellae .last .0) at v₁ (at + 1) (lamellaBytes (lamellae p))
+    then-put l (c6 .put8 .last .0) (c .before .before .put-lamellae .last .0) at v₁ (at + countLength) (lamellaBytes (lamellae p))
     (c6 .put8 .ensures) refl (c .before .before .put-lamellae .ensures)
 
 pub put-tail-spec : {M : Type 1} → statement M

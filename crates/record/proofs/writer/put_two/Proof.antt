@@ -3,11 +3,10 @@
 use Prim.Native.Nat.{ℕ, _+_}
 use Rattle.numbers.proofs.Lists.{then-put}
 use Rattle.numbers.specs.Bytes.{join}
-use Rattle.panel.specs.declared.Board.{Board}
-use Rattle.record.specs.Layouts.{boardWidths, boardBytes}
+use Rattle.record.specs.Layouts.{boardWidths, boardLength, boardNumbers, boardBytes}
 use borrow.Author.Needs.{needs}
 use denote.Ref.{now}
-use mathlib.Core.List.{[], _∷_, List}
+use mathlib.Core.List.{List}
 use mathlib.Core.Path.{refl}
 use Rattle.record.proofs.writer.put_two.Statement.{statement}
 use Rattle.record.proofs.writer.put_two.Tie as tie
@@ -19,9 +18,9 @@ returns c =
     let c9 = c6 .before .before .before in
     let l = now (c9 .args .out) in
     let at = c9 .args .at in
-    let bytesOf : Board → List ℕ = λ b. join boardWidths (b .kind ∷ b .thickness ∷ b .joint ∷ []) in
-    let v₁ : List ℕ = bytesOf (c9 .args .outer) in
-    then-put l (c6 .put-board .last .0) (c .before .before .put-board2 .last .0) at v₁ (at + 4) (bytesOf (c9 .args .inner))
+    let v₁ : List ℕ = join boardWidths (boardNumbers (c9 .args .outer)) in
+    then-put l (c6 .put-board .last .0) (c .before .before .put-board2 .last .0) at v₁ (at + boardLength)
+    (join boardWidths (boardNumbers (c9 .args .inner)))
     (c6 .put-board .ensures) refl (c .before .before .put-board2 .ensures)
 
 pub put-two-spec : {M : Type 1} → statement M
