@@ -1,17 +1,17 @@
 // What is the same at every minute, worked out once for a panel.
 use crate::Fire;
 use limits::causes::total_thickness;
-use numbers::words64::less;
-use numbers::words64::pick;
 use numbers::words64::greater;
+use numbers::words64::less;
 use numbers::words64::lesser;
+use numbers::words64::pick;
 use numbers::words64::widen;
 use panel::Board;
 use panel::Cladding;
 use panel::Panel;
-use panel::timber::rate_of;
 use panel::boards::charring_start;
 use panel::boards::type_f;
+use panel::timber::rate_of;
 ghost use mathlib.Core.Path.{_≡_};
 ghost use Prim.Native.Nat.{_-_, _*_, _≤_, min};
 ghost use lib.Dec.{eqb};

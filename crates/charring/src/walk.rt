@@ -1,8 +1,8 @@
 // The way through the panel from t_f on, from bond line to bond line.
 use crate::Fire;
 use crate::Place;
-use numbers::words64::less;
 use numbers::words64::greater;
+use numbers::words64::less;
 use numbers::words64::lesser;
 use numbers::words64::widen;
 use panel::Panel;

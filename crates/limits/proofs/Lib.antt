@@ -1,5 +1,10 @@
-pub mod Accepted
+-- Tables of lines.
 pub mod FirstLine
-pub mod Tests
+-- What holds of an accepted panel.
+pub mod Accepted
+-- Unused places do not matter.
 pub mod Unused
+-- What the functions need.
+pub mod Tests
+-- Worked panels are accepted.
 pub mod Worked

@@ -1,7 +1,10 @@
+-- R: what its test says, and that it is 01's load minute.
 pub mod LoadMinutes
+-- The failure time and its whole part.
 pub mod WholeParts
 pub mod Closeness
 pub mod ExactFailure
+-- More exposure, the reserve, and unused places.
 pub mod Exposure
 pub mod Reserves
 pub mod Unused

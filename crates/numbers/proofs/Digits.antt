@@ -6,7 +6,7 @@ use native.Mathlib.Nat.{div-add-mod', pow-succ', zero-add, add-assoc}
 use native.Mathlib.Omega.{arith}
 use lib.Arith.{digits-div, digits-mod, digits-lt}
 use lib.ListN.{length, getD, length-append}
-use Rattle.numbers.specs.Bytes.{number, bytes, fields, join, span}
+use Rattle.numbers.specs.Bytes.{number, bytes, fields, join, span, AreBytes}
 use Rattle.numbers.proofs.Places.{places, getD-cons, places-append}
 
 -- a byte in front moves every place up by one
@@ -68,10 +68,6 @@ fields-join (suc w ∷ ws) (v ∷ vs) l h =
     (ap (fields ws (bytes (suc w) v ++ (join ws vs ++ l))) e ∙ fields-after ws (bytes (suc w) v) (join ws vs ++ l) 0 ∙ fields-join ws vs l h)
 
 -- Writing what was read
-
--- every place of a list holds a byte
-abbrev pub AreBytes : List ℕ → Type 0
-AreBytes b = (i : ℕ) → getD b i 0 < 256
 
 -- a number in w bytes is below 256 ^ w
 pub number-below : (b : List ℕ) → AreBytes b → (at w : ℕ) → number b at (suc w) < 256 ^ suc w

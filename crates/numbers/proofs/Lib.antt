@@ -1,7 +1,10 @@
+-- Tests, products and the largest number that keeps a test.
 pub mod Booleans
-pub mod Digits
-pub mod FirstValues
-pub mod LargestKept
-pub mod Lists
-pub mod Places
 pub mod Products
+pub mod LargestKept
+-- Lists: first values, parts and stores.
+pub mod FirstValues
+pub mod Lists
+-- Big-endian numbers in bytes.
+pub mod Places
+pub mod Digits

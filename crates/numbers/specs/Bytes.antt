@@ -1,7 +1,7 @@
 -- Document 01, "The panel record": "Big-endian, numbers unsigned."
 -- A number stands in w bytes, the most significant first. `number` reads it, `bytes` writes it; `fields` and `join` do so for
 -- several numbers in a row, so that a layout is one list of widths.
-use Prim.Native.Nat.{ℕ, zero, suc, _+_, _*_, _/_, _%_, _^_}
+use Prim.Native.Nat.{ℕ, zero, suc, _+_, _*_, _/_, _%_, _^_, _<_}
 use mathlib.Core.List.{List, [], _∷_, _++_}
 use lib.ListN.{getD}
 
@@ -32,3 +32,7 @@ join (w ∷ ws) (v ∷ vs) = bytes w v ++ join ws vs
 abbrev pub span : List ℕ → ℕ
 span [] = 0
 span (w ∷ ws) = w + span ws
+
+-- every place of a list holds a byte
+abbrev pub AreBytes : List ℕ → Type 0
+AreBytes b = (i : ℕ) → getD b i 0 < 256

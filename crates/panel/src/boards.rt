@@ -1,10 +1,10 @@
 // What follows from the boards alone: their types, and t_ch, the start of charring.
 use crate::Board;
 use crate::Cladding;
-use numbers::words32::pick;
 use crate::ranges::GYPSUM_THICKEST;
 use crate::ranges::GYPSUM_THINNEST;
 use numbers::words32::less;
+use numbers::words32::pick;
 ghost use mathlib.Core.Path.{_≡_};
 ghost use Prim.Native.Nat.{_*_, _<_};
 ghost use Rattle.numbers.specs.Choice.{outside};

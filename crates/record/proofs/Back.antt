@@ -7,7 +7,8 @@ use native.Mathlib.Nat.{mul-suc, zero-add, add-zero}
 use lib.ListN.{length, drop}
 use lib.Seq.{getD-drop}
 use Rattle.numbers.specs.Bytes.{join}
-use Rattle.numbers.proofs.Digits.{AreBytes, join-fields}
+use Rattle.numbers.specs.Bytes.{AreBytes}
+use Rattle.numbers.proofs.Digits.{join-fields}
 use Rattle.numbers.proofs.Places.{places, places-append, places-drop, places-all}
 use Rattle.panel.specs.Lamellae
 use Rattle.panel.specs.Boards.{boardsOf}

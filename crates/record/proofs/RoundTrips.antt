@@ -6,7 +6,7 @@ use mathlib.Core.List.{List, _++_}
 use native.Mathlib.Omega.{arith}
 use lib.ListN.{length, take, drop}
 use lib.Seq.{take-at}
-use Rattle.numbers.proofs.Digits.{AreBytes}
+use Rattle.numbers.specs.Bytes.{AreBytes}
 use Rattle.panel.specs.declared.Panel.{Panel}
 use Rattle.panel.specs.Lamellae.{cleared}
 use Rattle.limits.specs.Refusals.{panelRefusal}
@@ -15,7 +15,7 @@ use Rattle.limits.proofs.Accepted.{accepted-fits}
 use Rattle.record.specs.declared.Writing.the-variants.{Written, Refused}
 use Rattle.record.specs.Layouts.{recordLength, panelOf, encode}
 use Rattle.record.specs.Refusals.{recordRefusal, writeRefusal}
-use Rattle.record.specs.Answers.{decode, reading, blank, writeAnswer, spaceAfter}
+use Rattle.record.specs.Answers.{decode, reading, blank, writeAnswer, spaceAfter, WrittenBack}
 use Rattle.record.proofs.Lengths.{length-encode}
 use Rattle.record.proofs.Writes.{write-taken, write-accepted}
 use Rattle.record.proofs.Sound.{accepted-sound, record-panel}
@@ -42,12 +42,7 @@ read-written p space e =
     ∙ ap decode (take-at (encode p) (drop (recordLength p) space) (recordLength p) (length-encode p))
     ∙ decode-encode p (write-taken p space e)
 
--- Writing what was read gives the bytes: for every accepted record and every space that is long enough for it, the writer
--- answers its length and leaves it at the start of the space, the bytes after it unchanged.
-pub record WrittenBack (b space : List ℕ) : Type 0 where
-  pub answer : writeAnswer (panelOf b) space ≡ Written (length b)
-  pub left : spaceAfter (panelOf b) space ≡ b ++ drop (length b) space
-
+-- Writing what was read gives the bytes
 pub written-read : (b space : List ℕ) → AreBytes b → recordRefusal b ≡ 0 → length b ≤ length space → WrittenBack b space
 unfolding writeAnswer spaceAfter
 written-read b space h e room =

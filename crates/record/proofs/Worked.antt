@@ -2,7 +2,6 @@
 -- Assumes nothing.
 use Prim.Native.Nat.{ℕ, _+_, _*_}
 use mathlib.Core.Path.{_≡_, refl}
-use mathlib.Core.List.{List, [], _∷_}
 use Rattle.panel.specs.Lamellae.{lamellaeOf, thickness}
 use Rattle.panel.specs.Worked.{g}
 use Rattle.section.specs.Sections.{countedFrom, total, lowest, highest, sectionOf}
@@ -24,6 +23,7 @@ use Rattle.record.specs.Layouts.{
 }
 use Rattle.record.specs.Refusals.{recordRefusal}
 use Rattle.record.specs.Answers.{decode, reading}
+use Rattle.record.specs.Worked.{gBytes}
 
 -- Lengths and places
 
@@ -52,12 +52,6 @@ pub longest-is : longest ≡ 53
 longest-is = refl
 
 -- The record of G
-
--- length 27, version 1, bond 0, rate 65, gap 0, f 240, M 3,000, no boards, time 0, three lamellae
-pub gBytes : List ℕ
-gBytes =
-    0 ∷ 27 ∷ 1 ∷ 0 ∷ 65 ∷ 0 ∷ 0 ∷ 240 ∷ 0 ∷ 0 ∷ 11 ∷ 184 ∷ 0 ∷ 0 ∷ 0 ∷ 0 ∷ 0 ∷ 3
-    ∷ 1 ∷ 1 ∷ 44 ∷ 0 ∷ 1 ∷ 144 ∷ 1 ∷ 1 ∷ 44 ∷ []
 
 pub g-written : encode (g 3000) ≡ gBytes
 unfolding gBytes encode boardBytes lamellaBytes lamellaeOf

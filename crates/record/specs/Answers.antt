@@ -1,7 +1,8 @@
 -- What `read` and `write` answer, by document 01's number, and what `write` leaves in the lent space. 0 is no refusal.
 use Prim.Native.Nat.{ℕ}
+use mathlib.Core.Path.{_≡_}
 use mathlib.Core.List.{List, [], _++_}
-use lib.ListN.{drop}
+use lib.ListN.{length, drop}
 use Rattle.panel.specs.declared.Panel.{Panel}
 use Rattle.panel.specs.declared.Cladding.the-variants.{Unclad}
 use Rattle.record.specs.declared.Reading.{Reading}
@@ -30,3 +31,9 @@ writeAnswer p space = answer (writeRefusal p space) Refused (Written (recordLeng
 -- what then stands in the lent space: the record and the old bytes after it, or, on a refusal, what stood there
 unfoldable pub spaceAfter : Panel → List ℕ → List ℕ
 spaceAfter p space = answer (writeRefusal p space) (λ (n : ℕ). space) (encode p ++ drop (recordLength p) space)
+
+-- Writing what was read gives the bytes: for every accepted record and every space that is long enough for it, the writer
+-- answers its length and leaves it at the start of the space, the bytes after it unchanged.
+pub record WrittenBack (b space : List ℕ) : Type 0 where
+  pub answer : writeAnswer (panelOf b) space ≡ Written (length b)
+  pub left : spaceAfter (panelOf b) space ≡ b ++ drop (length b) space

@@ -1,3 +1,4 @@
 pub mod Layouts
 pub mod Refusals
 pub mod Answers
+pub mod Worked

@@ -1,7 +1,7 @@
 // The open calls of this crate: they ask nothing of their caller.
 use crate::Reading;
 use crate::Writing;
-use crate::lines::byte_faults;
+use crate::faults::byte_faults;
 use crate::reader::panel_of;
 use crate::writer::put_record;
 use crate::writer::record_length;

@@ -1,7 +1,7 @@
 // The panel record of document 01: its layout, the reader and the writer, and the lines that turn a record back.
 pub mod calls;
+mod faults;
 mod layout;
-mod lines;
 mod reader;
 mod writer;
 

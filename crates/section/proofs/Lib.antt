@@ -1,6 +1,10 @@
+-- The counted parts lie in order, and the sums over them keep their bounds.
 pub mod Products
 pub mod Chains
-pub mod Growing
+-- No difference is cut off at 0.
 pub mod Moments
 pub mod NothingCut
+-- What the functions need: sums lamella by lamella.
+pub mod Growing
+-- Worked panels keep the limits.
 pub mod Worked

@@ -1,8 +1,8 @@
 // Whether a depth passes.
 use crate::Section;
 use crate::sums::section_of;
-use numbers::words64::less;
 use numbers::words64::greater;
+use numbers::words64::less;
 use panel::Panel;
 use panel::timber::factor_of;
 ghost use mathlib.Core.Path.{_≡_};
@@ -71,10 +71,5 @@ pub fn depth_passes(p: Panel, depth: u32) -> bool
     requires { ⌜ SectionFits p ⌝ }
     ensures { λ r. ⌜ r ≡ depthPasses p depth ⌝ }
 {
-    section_passes(
-        factor_of(p),
-        p.moment,
-        p.strength,
-        section_at(p, depth),
-    )
+    section_passes(factor_of(p), p.moment, p.strength, section_at(p, depth))
 }

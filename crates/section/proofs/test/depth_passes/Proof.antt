@@ -13,8 +13,7 @@ section-passes-requires : tie.Need-section-passes-requires
 section-passes-requires c κs =
     let f = c .before in
     let a = f .before .args in
-    let fits = f .before .pre in
-    (
+    let fits = f .before .pre in (
       f .factor-of .ensures .1,
       (
         fits .moment,

@@ -1,7 +1,7 @@
--- `record::lines::bad_whole` meets its contract by what the counts and `length_with` say. Assumes nothing.
+-- `record::faults::bad_whole` meets its contract by what the counts and `length_with` say. Assumes nothing.
 use borrow.Author.Needs.{needs}
-use Rattle.record.proofs.lines.bad_whole.Statement.{statement}
-use Rattle.record.proofs.lines.bad_whole.Tie as tie
+use Rattle.record.proofs.faults.bad_whole.Statement.{statement}
+use Rattle.record.proofs.faults.bad_whole.Tie as tie
 
 returns : tie.Need-returns
 returns c = rw (c .length-with .ensures, c .before .before .board-count .ensures .0, c .before .lamella-count .ensures .0)

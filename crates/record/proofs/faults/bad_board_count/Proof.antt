@@ -1,8 +1,8 @@
--- `record::lines::bad_board_count` meets its contract by what `board_count` and `length_with` say.
+-- `record::faults::bad_board_count` meets its contract by what `board_count` and `length_with` say.
 -- Assumes nothing.
 use borrow.Author.Needs.{needs}
-use Rattle.record.proofs.lines.bad_board_count.Statement.{statement}
-use Rattle.record.proofs.lines.bad_board_count.Tie as tie
+use Rattle.record.proofs.faults.bad_board_count.Statement.{statement}
+use Rattle.record.proofs.faults.bad_board_count.Tie as tie
 
 returns : tie.Need-returns
 returns c = rw (c .length-with .ensures, c .before .board-count .ensures .0)

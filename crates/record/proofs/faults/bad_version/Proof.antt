@@ -1,8 +1,8 @@
--- `record::lines::bad_version` meets its contract by what `get8` says.
+-- `record::faults::bad_version` meets its contract by what `get8` says.
 -- Assumes nothing.
 use borrow.Author.Needs.{needs}
-use Rattle.record.proofs.lines.bad_version.Statement.{statement}
-use Rattle.record.proofs.lines.bad_version.Tie as tie
+use Rattle.record.proofs.faults.bad_version.Statement.{statement}
+use Rattle.record.proofs.faults.bad_version.Tie as tie
 
 returns : tie.Need-returns
 returns c = cc

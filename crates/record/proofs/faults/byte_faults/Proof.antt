@@ -1,7 +1,7 @@
--- `record::lines::byte_faults` meets its contract: the calls are the faults. Assumes nothing.
+-- `record::faults::byte_faults` meets its contract: the calls are the faults. Assumes nothing.
 use borrow.Author.Needs.{needs}
-use Rattle.record.proofs.lines.byte_faults.Statement.{statement}
-use Rattle.record.proofs.lines.byte_faults.Tie as tie
+use Rattle.record.proofs.faults.byte_faults.Statement.{statement}
+use Rattle.record.proofs.faults.byte_faults.Tie as tie
 
 returns : tie.Need-returns
 returns c = cc

@@ -1,8 +1,8 @@
--- `record::lines::bad_length` meets its contract by what `get16` says.
+-- `record::faults::bad_length` meets its contract by what `get16` says.
 -- Assumes nothing.
 use borrow.Author.Needs.{needs}
-use Rattle.record.proofs.lines.bad_length.Statement.{statement}
-use Rattle.record.proofs.lines.bad_length.Tie as tie
+use Rattle.record.proofs.faults.bad_length.Statement.{statement}
+use Rattle.record.proofs.faults.bad_length.Tie as tie
 
 returns : tie.Need-returns
 returns c = rw (c .get16 .ensures)
