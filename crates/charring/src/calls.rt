@@ -1,5 +1,6 @@
 // The open calls of this crate: they ask nothing of their caller.
 use crate::DepthAnswer;
+use crate::ENTRIES;
 use crate::PhaseAnswer;
 use crate::TableAnswer;
 use crate::depths::micrometres_in;
@@ -67,7 +68,7 @@ pub fn depth_table(p: Panel, out: &mut [u32]) -> TableAnswer
     if n != 0 {
         return TableAnswer::Refused(n);
     }
-    if out.len() < 361 {
+    if out.len() < ENTRIES {
         return TableAnswer::Refused(14);
     }
     fill(p, out);

@@ -6,6 +6,11 @@ mod phases;
 mod table;
 mod walk;
 
+use limits::LAST_MINUTE;
+
+// The entries of a depth table: one for each minute.
+const ENTRIES: usize = LAST_MINUTE as usize + 1;
+
 // The phase of the char. A fast phase carries the char depth where it ends, in hundred-thousandths of mm.
 pub enum Phase {
     Untouched,

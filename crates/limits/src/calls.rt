@@ -34,7 +34,10 @@ pub fn section(p: Panel, depth: u32) -> SectionAnswer
         return SectionAnswer::Refused(n);
     }
     let s = section_at(p, depth);
-    SectionAnswer::At(s, section_passes(factor_of(p), p.moment, p.strength, s))
+    SectionAnswer::At(
+        s,
+        section_passes(factor_of(p.bond), p.moment, p.strength, s),
+    )
 }
 
 fn same_if(same: bool) -> BuildAnswer

@@ -21,7 +21,7 @@ unfoldable pub lamellaeOf : List ℕ → List ℕ → ℕ → List Lamella
 unfolding firsts
 lamellaeOf gs ts n = firsts (λ (i : ℕ). lamella (getD gs i 0) (getD ts i 0)) n
 
--- a panel's lamellae: every definition about a panel sees its arrays through this one, so that
+-- a panel's lamellae: lines, sections, depths, layer times and records see its arrays through this one, so that
 -- "unused places are ignored by every call that is given a panel"
 abbrev pub lamellae : Panel → List Lamella
 lamellae p = lamellaeOf (p .directions) (p .thicknesses) (p .count)

@@ -4,9 +4,9 @@ ghost use mathlib.Core.Path.{_≡_};
 ghost use Prim.Native.Nat.{_≤_, _<_};
 ghost use Rattle.panel.specs.Timber.{factorOf, rateOf};
 
-// k_fi in twentieths.
-pub fn factor_of(p: Panel) -> u64
-    ensures { λ r. ⌜ (r ≡ factorOf p) × (r ≤ 23) ⌝ }
+// k_fi in twentieths, by the bond.
+pub fn factor_of(bond: u8) -> u64
+    ensures { λ r. ⌜ (r ≡ factorOf bond) × (r ≤ 23) ⌝ }
 {
     23
 }

@@ -19,11 +19,12 @@ use Rattle.record.specs.declared.Lamellae.{Lamellae}
 abbrev pub frontWidths : List ℕ
 frontWidths = 2 ∷ 1 ∷ []
 
--- "bond (1); rate (1); joint gap (1); bending strength (2); moment (4); number c of boards (1); failure time given (4)"
+-- "bond .. (1); rate β .. (1); joint gap .. (1); bending strength f .. (2); moment M .. (4); number c of boards (1); failure time given
+-- .. (4)"
 abbrev pub headWidths : List ℕ
 headWidths = 1 ∷ 1 ∷ 1 ∷ 2 ∷ 4 ∷ 1 ∷ 4 ∷ []
 
--- "per board, outer first: type (1), thickness (2), joint coefficient (1)"
+-- "per board, outer first: type .. (1), thickness in tenths of mm (2), joint coefficient in hundredths (1)"
 abbrev pub boardWidths : List ℕ
 boardWidths = 1 ∷ 2 ∷ 1 ∷ []
 

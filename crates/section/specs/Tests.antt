@@ -28,7 +28,7 @@ sectionAt p depth = sectionOf (counted depth (lamellae p))
 
 -- whether a depth passes under a moment, and under the panel's own
 abbrev pub passesUnder : ℕ → Panel → ℕ → Bool
-passesUnder moment p depth = carries (factorOf p) moment (p .strength) (sectionAt p depth)
+passesUnder moment p depth = carries (factorOf (p .bond)) moment (p .strength) (sectionAt p depth)
 
 abbrev pub depthPasses : Panel → ℕ → Bool
 depthPasses p depth = passesUnder (p .moment) p depth

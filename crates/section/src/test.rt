@@ -71,5 +71,10 @@ pub fn depth_passes(p: Panel, depth: u32) -> bool
     requires { ⌜ SectionFits p ⌝ }
     ensures { λ r. ⌜ r ≡ depthPasses p depth ⌝ }
 {
-    section_passes(factor_of(p), p.moment, p.strength, section_at(p, depth))
+    section_passes(
+        factor_of(p.bond),
+        p.moment,
+        p.strength,
+        section_at(p, depth),
+    )
 }
