@@ -10,7 +10,7 @@ import sys
 import needs
 import peer
 
-BRACKETS = re.compile(r"(const TABLE: \[u16; \d+\] = \[)[^]]*(\];)")
+BRACKETS = re.compile(r"(const TABLE: \[u32; \d+\] = \[)[^]]*(\];)")
 
 
 def write_table(path, entries):
@@ -19,7 +19,7 @@ def write_table(path, entries):
     listed = "".join(f"    {entry},\n" for entry in entries)
     code, found = BRACKETS.subn(rf"\1\n{listed}\2", code)
     if not found:
-        sys.exit(f"no `const TABLE: [u16; ..] = [..];` in {path}")
+        sys.exit(f"no `const TABLE: [u32; ..] = [..];` in {path}")
     with open(path, "w") as file:
         file.write(code)
 

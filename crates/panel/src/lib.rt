@@ -7,7 +7,7 @@ pub mod timber;
 // A joint coefficient that takes nothing off, in hundredths.
 pub const WHOLE_JOINT: u8 = 100;
 
-// One gypsum board. The type is its ASCII letter, the thickness in tenths of mm, the joint coefficient in hundredths.
+// One board. The type is its ASCII letter, the thickness in tenths of mm, the joint coefficient in hundredths.
 pub struct Board {
     pub kind: u8,
     pub thickness: u16,
