@@ -1,6 +1,6 @@
 -- The phase by cases: what each of its tests gives, as equations.
 use Prim.Native.Nat.{ℕ, _+_, _-_, _*_, _/_, _≤_, _<_}
-use mathlib.Core.Path.{_≡_, refl, sym, ap, _∙_}
+use mathlib.Core.Path.{_≡_, refl, ap, _∙_}
 use mathlib.Core.List.{List, [], _∷_}
 use mathlib.Core.Bool.{Bool, true, false}
 use native.Mathlib.Omega.{arith}
@@ -21,9 +21,6 @@ fast-not-settled f e h k = let z : _≡_ {A = ℕ} 0 1 = cc in omega arith
 
 pub untouched-not-settled : (f : Phase) → f ≡ Untouched → f ≡ Settled → ⊥
 untouched-not-settled f h k = let z : _≡_ {A = ℕ} 0 1 = cc in omega arith
-
-pub untouched-not-under : (f : Phase) → f ≡ Untouched → f ≡ UnderCladding → ⊥
-untouched-not-under f h k = let z : _≡_ {A = ℕ} 0 1 = cc in omega arith
 
 pub untouched-not-fast : (f : Phase) (e : ℕ) → f ≡ Untouched → f ≡ Fast e → ⊥
 untouched-not-fast f e h k = let z : _≡_ {A = ℕ} 0 1 = cc in omega arith
@@ -171,21 +168,3 @@ where-on s ss x q =
     go a b f s r F S R (no h) d = F (omega arith) (f (omega arith))
     go a b f s r F S R (yes h) (no k) = S h (omega arith) (s h (omega arith))
     go a b f s r F S R (yes h) (yes k) = R k (r k)
-
--- a way is fast or settled
-on-not : (f : Phase) → ((e : ℕ) → f ≡ Fast e → ⊥) → (f ≡ Settled → ⊥) → (ss : List Stretch) (x q : ℕ) → phaseOn ss x q ≡ f → ⊥
-unfolding phaseOn
-on-not f not-fast not-settled [] x q e = not-settled (sym e)
-on-not f not-fast not-settled (s ∷ ss) x q e =
-    go (where-on s ss x q) (on-not f not-fast not-settled ss (x - q * fastPart s - 2 * q * settledPart s) q)
-  where
-    go : WhereOn s ss x q → (phaseOn ss (x - q * fastPart s - 2 * q * settledPart s) q ≡ f → ⊥) → ⊥
-    go (fast h k) later = not-fast (s .end / 10000) (sym e ∙ k)
-    go (settled h l k) later = not-settled (sym e ∙ k)
-    go (rest h k) later = later (sym k ∙ e)
-
-pub on-not-untouched : (ss : List Stretch) (x q : ℕ) → phaseOn ss x q ≡ Untouched → ⊥
-on-not-untouched = on-not Untouched (λ e. untouched-not-fast Untouched e refl) (untouched-not-settled Untouched refl)
-
-pub on-not-under : (ss : List Stretch) (x q : ℕ) → phaseOn ss x q ≡ UnderCladding → ⊥
-on-not-under = on-not UnderCladding (λ e. under-not-fast UnderCladding e refl) (under-not-settled UnderCladding refl)

@@ -14,8 +14,7 @@ use Rattle.charring.specs.Stages.{Stretch, way, charred, fastPart, settl
 use Rattle.charring.specs.Depths.{underAt, afterAt, charAt, fullAt, effectiveAt, tenthsAt}
 use Rattle.charring.proofs.Rounding.{up-covers}
 use Rattle.charring.proofs.WayRamps.{charred-ramp}
-use Rattle.charring.proofs.Runs.{reach}
-use Rattle.charring.proofs.PhaseLaws.{char-parts, under-full, way-not-over}
+use Rattle.charring.proofs.DepthParts.{char-parts, under-full, reach, way-not-over}
 use Rattle.charring.proofs.DepthLaws.{effective-ramp, full-positive, unit-positive}
 use Rattle.charring.proofs.DepthBounds.{char-effective}
 

@@ -1,22 +1,18 @@
--- A panel's way: its stretches follow each other from the depth at t_f to the back face, and a fast phase is short of its end.
+-- A panel's way: its stretches follow each other from the depth at t_f to the back face.
 use Prim.Native.Nat.{ℕ, zero, suc, _+_, _-_, _*_, _/_, _≤_, _<_, min, max}
-use mathlib.Core.Path.{_≡_, refl, sym, ap, _∙_}
+use mathlib.Core.Path.{_≡_, refl, _∙_}
 use mathlib.Core.List.{List, [], _∷_}
 use mathlib.Core.Bool.{Bool, true, false}
 use native.Mathlib.Omega.{arith}
-use native.Mathlib.Nat.{mul-le-mul-left}
 use lib.Dec.{ltb, eqb}
 use borrow.Author.Tests.{ltb-false}
 use Rattle.numbers.specs.Choice.{pick}
 use Rattle.panel.specs.declared.Panel.{Panel}
 use Rattle.panel.specs.Timber.{rateOf}
 use Rattle.panel.specs.Lamellae.{Lamella, lamellae}
-use Rattle.charring.specs.declared.Phase.the-variants.{Fast}
 use Rattle.charring.specs.Fires.{tenth, fastRun, startOf, failureOf, plainRate, clad, backFace, depthAtFailure}
 use Rattle.charring.specs.Fires.{firstEnd, linesFrom, bondLines, lineEnd}
 use Rattle.charring.specs.Stages.{Stretch, stretches, way, charred, fastPart, settledPart}
-use Rattle.charring.specs.Phases.{phaseOn}
-use Rattle.charring.proofs.PhaseCases.{WhereOn, fast, settled, rest, where-on, fast-not-settled, fast-end}
 
 -- Depths that are whole hundred-thousandths of a mm
 
@@ -222,49 +218,3 @@ charred-none (s ∷ ss) q =
 
     numbers : (a b g : ℕ) → g ≡ 0 → 2 * min 0 a + min (0 - a) b + g ≡ 0
     numbers a b g h = omega arith
-
--- A fast phase is short of its named end
-
-within-end : (s : Stretch) (ss : List Stretch) (a x q e : ℕ) → s .from ≡ a → Exact (s .end) → x < q * fastPart s
-    → s .end / 10000 ≡ e → 2 * q * a + charred (s ∷ ss) x q < 2 * q * (10000 * e)
-within-end s ss a x q e from exact h same =
-    let start : 2 * x + charred ss 0 q ≡ 2 * x = omega (arith, charred-none ss q) in
-    let deep : q * (s .from + fastPart s) ≤ q * (s .end) = mul-le-mul-left q (fast-part-end s (positive x q (fastPart s) h)) in
-    rw (charred-within s ss x q h, start) (numbers q a x (s .from) (fastPart s) (s .end) e (exact .count) from h deep (exact .is) same)
-  where
-    numbers :
-        (q a x b f d e k : ℕ) → b ≡ a → x < q * f → q * (b + f) ≤ q * d → d ≡ 10000 * k → d / 10000 ≡ e
-        → 2 * q * a + 2 * x < 2 * q * (10000 * e)
-    numbers q a x b f d e k same h l is named =
-        let whole : d ≡ 10000 * e = omega arith in
-        let there : q * (a + f) ≤ q * (10000 * e) = rw (whole, same) at l in
-        omega arith
-
-pub fast-before : (a back : ℕ) (ss : List Stretch) (x q e : ℕ) → Chain a back ss → phaseOn ss x q ≡ Fast e
-    → 2 * q * a + charred ss x q < 2 * q * (10000 * e)
-unfolding phaseOn
-fast-before a back (s ∷ []) x q e (last from to exact) f = go (where-on s [] x q)
-  where
-    go : WhereOn s [] x q → 2 * q * a + charred (s ∷ []) x q < 2 * q * (10000 * e)
-    go (fast h k) = within-end s [] a x q e from exact h (fast-end (phaseOn (s ∷ []) x q) (s .end / 10000) e k f)
-    go (settled h l k) = absurd (fast-not-settled (phaseOn (s ∷ []) x q) e f k)
-    go (rest h k) = absurd (fast-not-settled (phaseOn (s ∷ []) x q) e f k)
-fast-before a back (s ∷ ss) x q e (next from deeper exact c) f =
-    go (where-on s ss x q) (fast-before (s .to) back ss (x - q * fastPart s - 2 * q * settledPart s) q e c)
-  where
-    numbers :
-        (q a b f t d g z : ℕ) → b ≡ a → b + f + t ≡ d → 2 * q * d + g < z → 2 * q * a + (2 * q * f + 2 * q * t + g) < z
-    numbers q a b f t d g z same whole h =
-        let e : q * (a + f + t) ≡ q * d = ap (λ (k : ℕ). q * k) (rw same at whole) in
-        omega arith
-
-    go : WhereOn s ss x q
-        → (phaseOn ss (x - q * fastPart s - 2 * q * settledPart s) q ≡ Fast e
-        → 2 * q * s .to + charred ss (x - q * fastPart s - 2 * q * settledPart s) q < 2 * q * (10000 * e))
-        → 2 * q * a + charred (s ∷ ss) x q < 2 * q * (10000 * e)
-    go (fast h k) later = within-end s ss a x q e from exact h (fast-end (phaseOn (s ∷ ss) x q) (s .end / 10000) e k f)
-    go (settled h l k) later = absurd (fast-not-settled (phaseOn (s ∷ ss) x q) e f k)
-    go (rest h k) later =
-        rw (charred-past s ss x q h)
-        (numbers q a (s .from) (fastPart s) (settledPart s) (s .to) (charred ss (x - q * fastPart s - 2 * q * settledPart s) q)
-        (2 * q * (10000 * e)) from (parts s deeper) (later (sym k ∙ f)))

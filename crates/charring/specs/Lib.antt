@@ -2,6 +2,5 @@ pub mod Fires
 pub mod Stages
 pub mod Depths
 pub mod Phases
-pub mod Charring
 pub mod Fits
 pub mod Answers

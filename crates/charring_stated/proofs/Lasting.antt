@@ -1,19 +1,19 @@
--- Each phase lasts: from any time on, the panel stays in its phase for a while, and so at any time the depth grows at the phase's rate.
+-- Each phase lasts: from any time on, the panel stays in its phase for a while.
 use Prim.Native.Nat.{ℕ, suc, _+_, _-_, _*_, _≤_, _<_}
 use mathlib.Core.Path.{_≡_, refl, sym, ap, _∙_}
 use mathlib.Core.List.{List, [], _∷_}
 use native.Mathlib.Omega.{arith}
-use native.Mathlib.Nat.{mul-le-mul-left, mul-le-mul-right, mul-pos, lt-of-mul-lt-mul-left, lt-of-mul-lt-mul-right, le-of-mul-le-mul-right, le-of-mul-le-mul-left}
+use native.Mathlib.Nat.{mul-le-mul-left, mul-le-mul-right, lt-of-mul-lt-mul-left, lt-of-mul-lt-mul-right, le-of-mul-le-mul-right, le-of-mul-le-mul-left}
 use Rattle.panel.specs.declared.Panel.{Panel}
 use Rattle.charring.specs.Fires.{startOf, failureOf, plainRate, backFace}
 use Rattle.charring.specs.Stages.{Stretch, way, fastPart, settledPart}
 use Rattle.charring.specs.Depths.{charAt}
 use Rattle.charring.specs.Phases.{phaseOn, phaseAt}
 use Rattle.charring.proofs.DepthLaws.{charSpeed, char-ramp, char-no-less}
 use Rattle.charring.proofs.PhaseCases.{Where, through, untouched, under, onward, where-at, at-through, at-untouched, at-under, at-way}
 use Rattle.charring.proofs.PhaseCases.{WhereOn, fast, settled, rest, where-on, on-fast, on-settled, on-rest}
-use Rattle.charring.proofs.Runs.{on-empty}
-use Rattle.charring.proofs.PhaseLaws.{Throughout, phaseRate, grows}
+use Rattle.charring_stated.proofs.Runs.{on-empty}
+use Rattle.charring_stated.proofs.PhaseLaws.{Throughout}
 
 -- On a way: from x/q to any z/s before (x + 1)/q
 
@@ -184,18 +184,3 @@ persists p n q pos r s here from to = go (where-at p n q)
         (soon (lasting p) n q r s here from to (P * 1000) (P * N) (P * R) (omega arith) g (apart P N n q (failureOf p) g s d refl)
         (apart P R r s (failureOf p) g q f (omega arith)))
         ∙ sym e
-
--- so at any time short of the back face, the depth grows at the rate of the phase then
-pub rate-at : (p : Panel) (n q : ℕ) → startOf p ≤ failureOf p → 0 < q → charAt p n q < 2 * q * backFace p
-    → charAt p (lasting p * n + 1) (lasting p * q) ≡ lasting p * charAt p n q + phaseRate p (phaseAt p n q)
-rate-at p n q order pos h =
-    let k : ℕ = lasting p in
-    let here : 0 < k * q = mul-pos (let z : 0 < k = omega arith in z) pos in
-    let l : charAt p (k * n + 1) (k * q) < 2 * (k * q) * backFace p = short-soon p n q (k * n + 1) (k * q) here (omega arith) h in
-    numbers (charAt p (k * n + 1) (k * q)) (charAt p (k * n) (k * q)) (k * charAt p n q) (phaseRate p (phaseAt p n q)) (k * n)
-    (grows p (phaseAt p n q) (k * n) (k * n + 1) (k * q) order here (omega arith) (persists p n q pos) l) (char-ramp p .scaled k n q)
-  where
-    numbers : (c d e r n : ℕ) → c ≡ d + r * (n + 1 - n) → d ≡ e → c ≡ e + r
-    numbers c d e r n h k =
-        let l : n + 1 - n ≡ 1 = omega arith in
-        omega (arith, rw l at h)

@@ -5,16 +5,17 @@ use mathlib.Core.List.{List·Memᴰ}
 use native.Mathlib.Omega.{arith}
 use native.Mathlib.Decide.{decLe, decLt}
 use Rattle.panel.specs.declared.Panel.{Panel}
 use Rattle.charring.specs.declared.Phase.the-variants.{Fast, Settled}
 use Rattle.charring.specs.Fires.{backFace, depthAtFailure, firstEnd, bondLines}
 use Rattle.charring.specs.Stages.{way, charred}
 use Rattle.charring.specs.Phases.{phaseOn}
 use Rattle.charring.proofs.PhaseCases.{fast-not-settled}
 use Rattle.charring.proofs.WayRamps.{charred-ramp}
 use Rattle.charring.proofs.WayLaws.{exact-first, exact-bond, way-chain}
-use Rattle.charring.proofs.Runs.{reach, reached, fast-run, settled-run}
-use Rattle.charring.proofs.PhaseOfDepth.{phaseOfDepth, way-depth}
-use Rattle.charring.proofs.SameRun.{SameRun, same-run, still-fast, still-settled}
+use Rattle.charring.proofs.DepthParts.{reach, reached}
+use Rattle.charring_stated.proofs.Runs.{fast-run, settled-run}
+use Rattle.charring_stated.proofs.PhaseOfDepth.{phaseOfDepth, way-depth}
+use Rattle.charring_stated.proofs.SameRun.{SameRun, same-run, still-fast, still-settled}
 
 -- how deep the char is after as much as z on the way
 abbrev pub depthOn : Panel → ℕ → ℕ → ℕ

@@ -1,16 +1,15 @@
 -- On a way, while it is fast the char deepens by two for each of x, and while it is settled by one.
-use Prim.Native.Nat.{ℕ, suc, _+_, _-_, _*_, _/_, _≤_, _<_, min, max}
+use Prim.Native.Nat.{ℕ, _+_, _-_, _*_, _/_, _≤_, _<_, min, max}
 use mathlib.Core.Path.{_≡_, refl, sym, ap, _∙_}
 use mathlib.Core.List.{List, [], _∷_}
 use native.Mathlib.Omega.{arith}
 use native.Mathlib.Decide.{decLt}
-use native.Mathlib.Nat.{mul-sub, mul-le-mul-left}
 use Rattle.charring.specs.declared.Phase.the-variants.{Settled}
 use Rattle.charring.specs.Stages.{Stretch, charred, fastPart, settledPart}
 use Rattle.charring.specs.Phases.{phaseOn}
 use Rattle.charring.proofs.WayRamps.{stage, charred-stages}
-use Rattle.charring.proofs.PhaseCases.{WhereOn, fast, settled, rest, where-on, on-fast, on-settled, on-rest, fast-not-settled}
-use Rattle.charring.proofs.WayLaws.{Chain, last, next, parts, parts-cover, charred-past}
+use Rattle.charring.proofs.PhaseCases.{on-fast, on-settled, on-rest, fast-not-settled}
+use Rattle.charring.proofs.DepthParts.{reach}
 
 -- Stages
 
@@ -53,43 +52,6 @@ stage-past r c b g x y q h same k =
     numbers a b g f d e k = omega arith
 
 -- Ways
-
--- how much of x a way takes
-unfoldable pub reach : List Stretch → ℕ → ℕ
-reach [] q = 0
-reach (s ∷ ss) q = q * fastPart s + 2 * q * settledPart s + reach ss q
-
-past-first : (a b c x : ℕ) → a + b + c ≤ x → a + b ≤ x
-past-first a b c x h = omega arith
-
--- past that, the char has come to the back face
-pub reached : (a back : ℕ) (ss : List Stretch) (x q : ℕ) → Chain a back ss → reach ss q ≤ x → 2 * q * back ≤ 2 * q * a + charred ss x q
-unfolding reach
-reached a back (s ∷ []) x q (last from to exact) h =
-    rw (charred-past s [] x q (past-first (q * fastPart s) (2 * q * settledPart s) 0 x h))
-    (numbers q a (s .from) (fastPart s) (settledPart s) (s .to) back
-    (charred [] (x - q * fastPart s - 2 * q * settledPart s) q) from to (parts-cover s))
-  where
-    numbers :
-        (q a b f t d back g : ℕ) → b ≡ a → d ≡ back → d ≤ b + f + t → 2 * q * back ≤ 2 * q * a + (2 * q * f + 2 * q * t + g)
-    numbers q a b f t d back g e k h =
-        let l : q * back ≤ q * (a + f + t) = mul-le-mul-left q (let z : back ≤ a + f + t = omega arith in z) in
-        omega arith
-reached a back (s ∷ ss) x q (next from deeper exact c) h =
-    rw (charred-past s ss x q (past-first (q * fastPart s) (2 * q * settledPart s) (reach ss q) x h))
-    (numbers q a (s .from) (fastPart s) (settledPart s) (s .to) (2 * q * back)
-    (charred ss (x - q * fastPart s - 2 * q * settledPart s) q) from (parts s deeper)
-    (reached (s .to) back ss (x - q * fastPart s - 2 * q * settledPart s) q c
-    (there (q * fastPart s) (2 * q * settledPart s) (reach ss q) x h)))
-  where
-    there : (a b c x : ℕ) → a + b + c ≤ x → c ≤ x - a - b
-    there a b c x h = omega arith
-
-    numbers :
-        (q a b f t d z g : ℕ) → b ≡ a → b + f + t ≡ d → z ≤ 2 * q * d + g → z ≤ 2 * q * a + (2 * q * f + 2 * q * t + g)
-    numbers q a b f t d z g e k h =
-        let l : q * (a + f + t) ≡ q * d = ap (λ (i : ℕ). q * i) (rw e at k) in
-        omega arith
 
 -- what happens past the first stretch happens on the rest of the way
 on-later : (s : Stretch) (ss : List Stretch) (q z : ℕ)
@@ -211,50 +173,3 @@ settled-run (s ∷ ss) x y q h within always =
         go (yes k) (yes l) = absurd (never k l)
         go (yes k) (no l) = omega arith
         go (no k) l = omega arith
-
--- The phase depends on x/q alone
-
-pub on-scaled : (ss : List Stretch) (k x q : ℕ) → 0 < k → phaseOn ss (k * x) (k * q) ≡ phaseOn ss x q
-on-scaled [] k x q h = on-empty (k * x) (k * q) ∙ sym (on-empty x q)
-on-scaled (s ∷ ss) k x q h =
-    go (where-on s ss x q) (on-scaled ss k (x - q * fastPart s - 2 * q * settledPart s) q h)
-  where
-    below : (k x q f : ℕ) → 0 < k → x < q * f → k * x < k * q * f
-    below k x q f h l =
-        let m : k * suc x ≤ k * (q * f) = mul-le-mul-left k l in
-        omega arith
-
-    above : (k x q f : ℕ) → q * f ≤ x → k * q * f ≤ k * x
-    above k x q f l =
-        let m : k * (q * f) ≤ k * x = mul-le-mul-left k l in
-        omega arith
-
-    below-both : (k x q f t : ℕ) → 0 < k → x < q * f + 2 * q * t → k * x < k * q * f + 2 * (k * q) * t
-    below-both k x q f t h l =
-        let m : k * suc x ≤ k * (q * f + 2 * q * t) = mul-le-mul-left k l in
-        omega arith
-
-    above-both : (k x q f t : ℕ) → q * f + 2 * q * t ≤ x → k * q * f + 2 * (k * q) * t ≤ k * x
-    above-both k x q f t l =
-        let m : k * (q * f + 2 * q * t) ≤ k * x = mul-le-mul-left k l in
-        omega arith
-
-    left : (k x q f t : ℕ) → k * x - k * q * f - 2 * (k * q) * t ≡ k * (x - q * f - 2 * q * t)
-    left k x q f t =
-        let a : k * q * f ≡ k * (q * f) = omega arith in
-        let b : 2 * (k * q) * t ≡ k * (2 * q * t) = omega arith in
-        rw (mul-sub k (x - q * f) (2 * q * t), mul-sub k x (q * f), a, b)
-
-    go :
-        WhereOn s ss x q
-        → phaseOn ss (k * (x - q * fastPart s - 2 * q * settledPart s)) (k * q)
-        ≡ phaseOn ss (x - q * fastPart s - 2 * q * settledPart s) q
-        → phaseOn (s ∷ ss) (k * x) (k * q) ≡ phaseOn (s ∷ ss) x q
-    go (fast l e) later = on-fast s ss (k * x) (k * q) (below k x q (fastPart s) h l) ∙ sym e
-    go (settled l m e) later =
-        on-settled s ss (k * x) (k * q) (above k x q (fastPart s) l) (below-both k x q (fastPart s) (settledPart s) h m) ∙ sym e
-    go (rest l e) later =
-        on-rest s ss (k * x) (k * q) (above-both k x q (fastPart s) (settledPart s) l)
-        ∙ ap (λ (i : ℕ). phaseOn ss i (k * q)) (left k x q (fastPart s) (settledPart s))
-        ∙ later
-        ∙ sym e

@@ -16,10 +16,21 @@ use Rattle.panel.specs.declared.Panel.{Panel}
 use Rattle.panel.specs.Lamellae.{Lamella, lamella, lamellae, lamellaeOf, thickness}
 use Rattle.limits.specs.Refusals.{panelRefusal}
 use Rattle.limits.specs.Keeps.{LamellaeKeep}
-use Rattle.limits.proofs.Accepted.{accepted-keeps}
+use Rattle.panel.proofs.Used.{thickness-more, thickness-prefix}
+use Rattle.limits.proofs.Accepted.{accepted-keeps, lamella-keeps}
 use Rattle.charring.specs.Fires.{tenth, backFace, linesFrom, bondLines, lineEnd}
-use Rattle.charring.specs.Charring.{IsBondLine, Deeper, face, next}
-use Rattle.charring.proofs.AcceptedPhases.{thick}
+use Rattle.charring_stated.specs.Charring.{IsBondLine, Deeper, face, next}
+
+-- an accepted panel has some thickness
+pub thick : (p : Panel) → panelRefusal p ≡ 0 → 0 < thickness (lamellae p)
+thick p e =
+    let k = accepted-keeps p e in
+    omega (
+      arith,
+      lamella-keeps p k 0 (k .countLeast) .least,
+      thickness-more (p .directions) (p .thicknesses) 0,
+      thickness-prefix (p .directions) (p .thicknesses) 1 (p .count) (k .countLeast),
+    )
 
 -- Where they are
 

@@ -8,27 +8,26 @@ use native.Mathlib.Nat.{le-trans, mul-le-mul-left, lt-of-mul-lt-mul-left, le-of-
 use borrow.Author.Tests.{eq-eqb, ne-eqb}
 use Rattle.panel.specs.declared.Panel.{Panel}
 use Rattle.limits.specs.Refusals.{panelRefusal}
 use Rattle.charring.specs.declared.Phase.{Phase}
 use Rattle.charring.specs.declared.Phase.the-variants.{Fast, Settled}
 use Rattle.charring.specs.Fires.{startOf, failureOf, plainRate, slowRate, backFace, depthAtFailure, firstEnd, bondLines, lineEnd}
 use Rattle.charring.specs.Stages.{stretches, way, charred}
 use Rattle.charring.specs.Depths.{underAt, afterAt, charAt}
 use Rattle.charring.specs.Phases.{phaseAt}
-use Rattle.charring.specs.Charring.{Charring, IsFirstEnd, FastUpTo, NoLineWithin, NoLineUpTo, NoLineAt, Deeper}
+use Rattle.charring_stated.specs.Charring.{Charring, IsFirstEnd, FastUpTo, NoLineWithin, NoLineUpTo, NoLineAt, Deeper}
 use Rattle.charring.proofs.Accepted.{fire-fits}
-use Rattle.charring.proofs.AcceptedPhases.{thick}
 use Rattle.charring.proofs.DepthLaws.{char-ramp, char-no-less}
 use Rattle.charring.proofs.DepthBounds.{char-within}
 use Rattle.charring.proofs.PhaseCases.{Where, through, untouched, under, onward, where-at, at-through, at-under, at-way}
 use Rattle.charring.proofs.PhaseCases.{fast-not-settled, untouched-not-settled, untouched-not-fast, under-not-settled, under-not-fast}
 use Rattle.charring.proofs.WayLaws.{Exact, exact-whole, AllExact, both, exact-first, exact-bond, exact-line-end}
-use Rattle.charring.proofs.PhaseLaws.{char-parts, after-none, under-part, under-full}
-use Rattle.charring.proofs.PhaseLaws.{no-char, untouched-before, base-rises, base-step, way-step}
-use Rattle.charring.proofs.PhaseOfDepth.{inRun, run-fast, run-settled, phaseOfDepth, phase-of-depth}
-use Rattle.charring.proofs.Lasting.{lasting, persists}
-use Rattle.charring.proofs.Lines.{lines-deeper, deeper-back, deeper-after}
-use Rattle.charring.proofs.SameRun.{SameRun, same-run, still-fast, fast-over, still-settled, way-starts, way-line}
-use Rattle.charring.proofs.Growth.{depthOn, fast-to, settled-to}
+use Rattle.charring.proofs.DepthParts.{char-parts, under-full}
+use Rattle.charring_stated.proofs.PhaseLaws.{after-none, under-part, no-char, untouched-before, base-rises, base-step, way-step}
+use Rattle.charring_stated.proofs.PhaseOfDepth.{inRun, run-fast, run-settled, phaseOfDepth, phase-of-depth}
+use Rattle.charring_stated.proofs.Lasting.{lasting, persists}
+use Rattle.charring_stated.proofs.Lines.{thick, lines-deeper, deeper-back, deeper-after}
+use Rattle.charring_stated.proofs.SameRun.{SameRun, same-run, still-fast, fast-over, still-settled, way-starts, way-line}
+use Rattle.charring_stated.proofs.Growth.{depthOn, fast-to, settled-to}
 
 -- past t_f and short of the back face
 record OnWay (p : Panel) (n q : ℕ) : Type 0 where

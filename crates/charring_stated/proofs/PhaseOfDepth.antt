@@ -8,18 +8,18 @@ use native.Mathlib.Nat.{mul-le-mul-left}
 use lib.Dec.{ltb}
 use borrow.Author.Tests.{lt-ltb, le-ltb}
 use Rattle.panel.specs.declared.Panel.{Panel}
 use Rattle.charring.specs.declared.Phase.{Phase}
 use Rattle.charring.specs.declared.Phase.the-variants.{Fast, Settled}
 use Rattle.charring.specs.Fires.{startOf, failureOf, plainRate, backFace, depthAtFailure}
 use Rattle.charring.specs.Stages.{Stretch, way, charred, fastPart, settledPart}
 use Rattle.charring.specs.Depths.{afterAt, charAt}
 use Rattle.charring.specs.Phases.{phaseOn, phaseAt}
 use Rattle.charring.specs.Fits.{phaseIn}
 use Rattle.charring.proofs.PhaseCases.{WhereOn, fast, settled, rest, where-on, at-way}
 use Rattle.charring.proofs.WayLaws.{Chain, last, next, way-chain, parts, parts-cover, positive}
 use Rattle.charring.proofs.WayLaws.{fast-part-end, fast-part-to, settled-part-end, settled-part-to, charred-past, charred-within, charred-settled, charred-none}
-use Rattle.charring.proofs.Runs.{on-empty}
-use Rattle.charring.proofs.PhaseLaws.{char-parts, under-full}
+use Rattle.charring.proofs.DepthParts.{char-parts, under-full}
+use Rattle.charring_stated.proofs.Runs.{on-empty}
 
 -- the phase at a depth d/q, half picometres, in a run that ends at `end`
 unfoldable pub inRun : ℕ → ℕ → ℕ → Phase

@@ -7,10 +7,10 @@ use native.Mathlib.Omega.{arith}
 use native.Mathlib.Decide.{decLt, ℕ-discrete}
 use native.Mathlib.Nat.{le-trans, lt-of-lt-of-le, mul-le-mul-left, mul-lt-mul-of-pos-left, eq-or-lt-of-le}
 use Rattle.panel.specs.declared.Panel.{Panel}
 use Rattle.charring.specs.declared.Phase.{Phase}
 use Rattle.charring.specs.declared.Phase.the-variants.{Fast, Settled}
 use Rattle.charring.specs.Fires.{plainRate, backFace, bondLines}
-use Rattle.charring.specs.Charring.{Charring, NoLineWithin, NoLineUpTo, NoLineAt}
+use Rattle.charring_stated.specs.Charring.{Charring, NoLineWithin, NoLineUpTo, NoLineAt}
 
 -- Marks
 

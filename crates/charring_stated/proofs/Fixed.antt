@@ -10,16 +10,16 @@ use native.Mathlib.Nat.{mul-pos, mul-le-mul-left, mul-le-mul-right, min-eq-left}
 use native.Mathlib.Nat.{min-eq-right, mul-lt-mul-of-pos-left, le-of-mul-le-mul-right, lt-of-mul-lt-mul-left, eq-of-mul-eq-mul-left}
 use Rattle.panel.specs.declared.Panel.{Panel}
 use Rattle.limits.specs.Refusals.{panelRefusal}
 use Rattle.charring.specs.declared.Phase.{Phase}
 use Rattle.charring.specs.declared.Phase.the-variants.{Fast, Settled}
 use Rattle.charring.specs.Fires.{startOf, failureOf, clad, plainRate, backFace, bondLines, lineEnd}
 use Rattle.charring.specs.Depths.{charAt}
 use Rattle.charring.specs.Phases.{phaseAt}
-use Rattle.charring.specs.Charring.{Charring, IsFirstEnd, FastUpTo, NoLineAt}
+use Rattle.charring_stated.specs.Charring.{Charring, IsFirstEnd, FastUpTo, NoLineAt}
 use Rattle.charring.proofs.Accepted.{fire-fits, rate-least}
-use Rattle.charring.proofs.Lines.{lines-deeper, deeper-after, line-end-deeper}
-use Rattle.charring.proofs.Legs.{NextMark, next-mark, LineAt, line-at, Course, fast, settled, course-rate, Leg, leg}
-use Rattle.charring.proofs.Stated.{charring-stated}
+use Rattle.charring_stated.proofs.Lines.{lines-deeper, deeper-after, line-end-deeper}
+use Rattle.charring_stated.proofs.Legs.{NextMark, next-mark, LineAt, line-at, Course, fast, settled, course-rate, Leg, leg}
+use Rattle.charring_stated.proofs.Stated.{charring-stated}
 
 -- where the first run ends is fixed
 first-fixed : (p : Panel) (a b : ℕ) → startOf p ≤ failureOf p → IsFirstEnd p a → IsFirstEnd p b → a ≡ b

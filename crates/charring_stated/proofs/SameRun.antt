@@ -1,20 +1,19 @@
 -- Which run a depth lies in: where the way starts, at a line, and that two depths with no line between them lie in the same one.
 use Prim.Native.Nat.{ℕ, _*_, _/_, _≤_, _<_}
-use mathlib.Core.Path.{_≡_, refl, ap, _∙_}
+use mathlib.Core.Path.{_≡_, refl, sym, ap, _∙_}
 use mathlib.Core.List.{List, [], _∷_, _++_, List·Memᴰ, List·Memᴰ·head, List·Memᴰ·tail, Memᴰ·append-right}
 use native.Mathlib.Omega.{arith}
 use native.Mathlib.Decide.{decLt}
 use native.Mathlib.Nat.{mul-le-mul-left, mul-lt-mul-of-pos-left}
 use Rattle.charring.specs.declared.Phase.the-variants.{Fast, Settled}
 use Rattle.charring.specs.Fires.{lineEnd}
 use Rattle.charring.specs.Stages.{Stretch, stretches}
 use Rattle.charring.proofs.PhaseCases.{fast-not-settled, fast-end}
-use Rattle.charring.proofs.WayLaws.{Exact, AllExact, none, both, exact-line-end}
+use Rattle.charring.proofs.WayLaws.{Exact, exact-whole, AllExact, none, both, exact-line-end}
 use Rattle.charring.proofs.Ways.{to-line, past-line}
-use Rattle.charring.proofs.PhaseOfDepth.{inRun, run-fast, run-settled, phaseOfDepth, deep-within, deep-rest}
-use Rattle.charring.proofs.GivesWay.{exact-named}
-use Rattle.charring.specs.Charring.{Deeper, next}
-use Rattle.charring.proofs.Lines.{deeper-back, deeper-line, line-end-deeper}
+use Rattle.charring_stated.proofs.PhaseOfDepth.{inRun, run-fast, run-settled, phaseOfDepth, deep-within, deep-rest}
+use Rattle.charring_stated.specs.Charring.{Deeper, next}
+use Rattle.charring_stated.proofs.Lines.{deeper-back, deeper-line, line-end-deeper}
 
 -- a stretch to a line or to the back face
 to : (from end mark : ℕ) → Stretch
@@ -26,6 +25,10 @@ marks q a b pos h = omega (arith, mul-lt-mul-of-pos-left h pos)
 
 marks-le : (q a b : ℕ) → a ≤ b → 2 * q * a ≤ 2 * q * b
 marks-le q a b h = omega (arith, mul-le-mul-left q h)
+
+-- an end that is named e is e hundred-thousandths of a millimetre
+exact-named : (end e : ℕ) → Exact end → end / 10000 ≡ e → end ≡ 10000 * e
+exact-named end e x h = sym (exact-whole end x) ∙ ap (λ (k : ℕ). 10000 * k) h
 
 -- Where a run starts
 

@@ -1,0 +1,2 @@
+// Document 01's "Charring", sentence by sentence, as one record about any depth and any phase (specs/Charring.antt): the defined ones of
+// every accepted panel keep it (proofs/Stated.antt), and nothing else does (proofs/Fixed.antt). No code.
