@@ -1,4 +1,4 @@
-"""The CLT fire card in exact arithmetic, written from document 01 alone.
+"""The CLT fire card in exact arithmetic, written from documents 01 and 02 alone.
 
 A peer of the Rattle code: it shares no line with it, and the two are compared on the same records.
 Lengths are in tenths of mm, times in thousandths of a minute, layer times in hundredths, unless a name says otherwise.
@@ -12,8 +12,9 @@ from typing import NamedTuple
 # ---------------------------------------------------------------- The panel record
 
 ALONG = 1
-TYPES = b"AFH"
+TYPES = b"AFHOP"
 TYPE_F = ord("F")
+WOOD_TYPES = b"OP"  # OSB and particle board
 
 
 class Board(NamedTuple):
@@ -95,11 +96,13 @@ def bad_types(boards):  # 7
     kinds = [board.kind for board in boards]
     if any(kind not in TYPES for kind in kinds):
         return True
-    return TYPE_F in kinds and any(kind != TYPE_F for kind in kinds)
+    if TYPE_F in kinds and any(kind != TYPE_F for kind in kinds):
+        return True
+    return len(kinds) > 1 and any(kind in WOOD_TYPES for kind in kinds)
 
 
 def bad_boards(boards):  # 8
-    return any(not 90 <= board.thickness <= 250 or not 1 <= board.joint <= 100 for board in boards)
+    return any(outside_table(board.kind, board.thickness) or not 1 <= board.joint <= 100 for board in boards)
 
 
 def bad_failure_time(panel):  # 9
@@ -212,6 +215,8 @@ def t_ch(panel):
     boards = panel.boards
     if not boards:
         return 0
+    if boards[0].kind in WOOD_TYPES:
+        return floor(Fraction(boards[0].thickness, 10) / Fraction(90, 100) * 1_000)
     less = 23_000 if panel.gap == 1 else 14_000
     if len(boards) == 1:
         return 280 * boards[0].thickness - less
@@ -466,7 +471,14 @@ TABLES = {
     "gypsum_insulation": (2_400, 150, 7, 5, 90, 250),
     "wood_protection": (3_000, 200, 11, 10, 100, 600),
     "wood_insulation": (1_900, 200, 7, 5, 100, 600),
+    "osb_protection": (2_300, 200, 11, 10, 200, 400),
+    "osb_insulation": (1_600, 200, 7, 5, 200, 400),
+    "particle_board_protection": (3_300, 200, 11, 10, 200, 400),
+    "particle_board_insulation": (2_200, 200, 7, 5, 200, 400),
 }
+
+MATERIALS = {ord("A"): "gypsum", ord("F"): "gypsum", ord("H"): "gypsum", ord("O"): "osb", ord("P"): "particle_board"}
+LAMELLA = "wood"
 
 
 def entry(table, h):
@@ -478,30 +490,21 @@ def entries(table):
     return [entry(table, h) for h in range(low, high + 1)]
 
 
-def gypsum_protection(h):
-    return entry("gypsum_protection", h)
+def in_table(table, h):
+    low, high = TABLES[table][4:]
+    return low <= h <= high
 
 
-def gypsum_insulation(h):
-    return entry("gypsum_insulation", h)
+def outside_table(kind, h):
+    """Whether no board of a known type has this thickness."""
+    return not in_table(MATERIALS[kind] + "_protection", h)
 
 
-def wood_protection(h):
-    return entry("wood_protection", h)
-
-
-def wood_insulation(h):
-    return entry("wood_insulation", h)
-
-
-def board_time(rule, h):
-    """(refusal, time) at a bare thickness."""
-    return (0, rule(h)) if 90 <= h <= 250 else (8, 0)
-
-
-def lamella_time(rule, h):
-    """(refusal, time) at a bare thickness."""
-    return (0, rule(h)) if 100 <= h <= 600 else (11, 0)
+def bare_time(table, h):
+    """(refusal, time) at a bare thickness: outside its table 11 for a lamella, 8 for a board."""
+    if in_table(table, h):
+        return 0, entry(table, h)
+    return (11 if table.startswith(LAMELLA) else 8), 0
 
 
 def layer_time(t, before, joint):
@@ -516,9 +519,9 @@ def layer_time(t, before, joint):
 def basic_layers(panel):
     """(basic time, joint coefficient) of each layer, from the exposed side: protection, but for the last insulation."""
     thicknesses = [thickness for _, thickness in panel.lamellae]
-    layers = [(gypsum_protection(board.thickness), board.joint) for board in panel.boards]
-    layers += [(wood_protection(thickness), 100) for thickness in thicknesses[:-1]]
-    return layers + [(wood_insulation(thicknesses[-1]), 100)]
+    layers = [(entry(MATERIALS[board.kind] + "_protection", board.thickness), board.joint) for board in panel.boards]
+    layers += [(entry("wood_protection", thickness), 100) for thickness in thicknesses[:-1]]
+    return layers + [(entry("wood_insulation", thicknesses[-1]), 100)]
 
 
 def layer_times(panel):

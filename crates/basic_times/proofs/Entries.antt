@@ -1,6 +1,6 @@
 -- A table's rule, proved once: a test that is computed over the whole table, and what it says of each entry.
 use Prim.Native.Nat.{ℕ, zero, suc, _+_, _-_, _*_, _^_, _<_, _≤_}
-use mathlib.Core.Path.{_≡_, sym, subst, _∙_}
+use mathlib.Core.Path.{_≡_, sym, ap, subst, _∙_}
 use mathlib.Core.List.{List, [], _∷_}
 use mathlib.Core.Bool.{Bool, true, not, _&&_}
 use native.Mathlib.Omega.{arith}
@@ -11,22 +11,25 @@ use lib.Dec.{T, leb, leb→le}
 use Rattle.numbers.proofs.Booleans.{T-left, T-right, T-true}
 use Rattle.numbers.specs.Largest.{IsLargest}
 use Rattle.numbers.proofs.LargestKept.{largest-is, largest-by-next}
-use Rattle.basic_times.specs.Rules.{keeps, basicTime}
+use Rattle.panel.specs.declared.Material.{Material}
+use Rattle.panel.specs.Materials.{thinnest, thickest}
+use Rattle.basic_times.specs.declared.Role.{Role}
+use Rattle.basic_times.specs.Rules.{longestTime, Rule, keeps, largestTime, ruleOf, basicTime}
 
 -- Smaller numbers keep to the rule too
 
-keeps-down :
-    (base reference power root h m n : ℕ) → m ≤ n → keeps base reference power root h n ≡ true → keeps base reference power root h m ≡ true
-keeps-down base reference power root h m n l e =
-    let k : n ^ root * reference ^ power ≤ base ^ root * h ^ power = leb-true (n ^ root * reference ^ power) (base ^ root * h ^ power) e in
-    le-leb (m ^ root * reference ^ power) (base ^ root * h ^ power) (le-trans (mul-le-mul-right (reference ^ power) (pow-le-pow-left l root)) k)
+keeps-down : (r : Rule) (h m n : ℕ) → m ≤ n → keeps r h n ≡ true → keeps r h m ≡ true
+keeps-down r h m n l e =
+    let most = (r .base) ^ (r .root) * h ^ (r .power) in
+    let scale = (r .reference) ^ (r .power) in
+    le-leb (m ^ (r .root) * scale) most
+    (le-trans (mul-le-mul-right scale (pow-le-pow-left l (r .root))) (leb-true (n ^ (r .root) * scale) most e))
 
 -- The test
 
 -- the entry keeps to the rule, the next number does not, and the entry is below the bound of the definition
-abbrev pub right : ℕ → ℕ → ℕ → ℕ → ℕ → ℕ → Bool
-right base reference power root h v =
-    keeps base reference power root h v && not (keeps base reference power root h (suc v)) && leb v (5 * base)
+abbrev pub right : Rule → ℕ → ℕ → Bool
+right r h v = keeps r h v && not (keeps r h (suc v)) && leb v longestTime
 
 -- every entry of a table that begins at thickness h passes a test
 abbrev pub allRight : (ℕ → ℕ → Bool) → ℕ → List ℕ → Bool
@@ -44,26 +47,36 @@ at-entry test first (v ∷ vs) t (suc i) h =
     (at-entry test (suc first) vs (T-right (test first v) (allRight test (suc first) vs) t) i (omega arith))
 
 -- an entry that passes is the largest number that keeps to the rule
-pub right-largest :
-    (base reference power root h v : ℕ) → T (right base reference power root h v) → IsLargest (keeps base reference power root h) v
-right-largest base reference power root h v t =
-    let test = keeps base reference power root h in
-    let both = T-left (test v && not (test (suc v))) (leb v (5 * base)) t in
-    largest-by-next test (keeps-down base reference power root h) v (T-true (test v) (T-left (test v) (not (test (suc v))) both))
+pub right-largest : (r : Rule) (h v : ℕ) → T (right r h v) → IsLargest (keeps r h) v
+right-largest r h v t =
+    let test = keeps r h in
+    let both = T-left (test v && not (test (suc v))) (leb v longestTime) t in
+    largest-by-next test (keeps-down r h) v (T-true (test v) (T-left (test v) (not (test (suc v))) both))
     (not-true (test (suc v)) (T-true (not (test (suc v))) (T-right (test v) (not (test (suc v))) both)))
+
+-- a table of as many entries as a material has thicknesses, each of which passes the test
+abbrev pub isTable : Role → Material → List ℕ → Bool
+isTable role m vs = leb (suc (thickest m)) (thinnest m + length vs) && allRight (right (ruleOf role m)) (thinnest m) vs
 
 -- THE RULE: each entry of a table that passes the test is the basic time at its thickness
 pub entry :
-    (base reference power root first : ℕ) (vs : List ℕ) → T (allRight (right base reference power root) first vs)
-    → (h : ℕ) → first ≤ h → h - first < length vs → getD vs (h - first) 0 ≡ basicTime base reference power root h
-unfolding basicTime
-entry base reference power root first vs t h low high =
-    let v = getD vs (h - first) 0 in
-    let place : first + (h - first) ≡ h = omega arith in
-    let here : T (right base reference power root h v) =
-    subst (λ (k : ℕ). T (right base reference power root k v)) place (at-entry (right base reference power root) first vs t (h - first) high)
-    in
-    let test = keeps base reference power root h in
+    (role : Role) (m : Material) (vs : List ℕ) → T (isTable role m vs) → (place : ℕ) → thinnest m + place ≤ thickest m
+    → getD vs place 0 ≡ basicTime role m (thinnest m + place)
+unfolding largestTime
+entry role m vs t place within =
+    let r = ruleOf role m in
+    let h = thinnest m + place in
+    let v = getD vs place 0 in
+    let long = leb (suc (thickest m)) (thinnest m + length vs) in
+    let all = allRight (right r) (thinnest m) vs in
+    let enough : suc (thickest m) ≤ thinnest m + length vs = leb→le (suc (thickest m)) (thinnest m + length vs) (T-left long all t) in
+    let here : T (right r h v) = at-entry (right r) (thinnest m) vs (T-right long all t) place (omega arith) in
+    let test = keeps r h in
     sym
-    (largest-is test (5 * base) v (right-largest base reference power root h v here)
-    (leb→le v (5 * base) (T-right (test v && not (test (suc v))) (leb v (5 * base)) here)))
+    (largest-is test longestTime v (right-largest r h v here)
+    (leb→le v longestTime (T-right (test v && not (test (suc v))) (leb v longestTime) here)))
+
+-- in an arm of a match, where the material is told
+pub told-place :
+    (place : ℕ) {m : Material} (k : Material) → m ≡ k → thinnest m + place ≤ thickest m → thinnest k + place ≤ thickest k
+told-place place k e = subst (λ (i : Material). thinnest i + place ≤ thickest i) e

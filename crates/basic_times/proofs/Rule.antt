@@ -1,58 +1,69 @@
--- "Each entry is the largest whole number whose fifth or tenth power keeps to the rule", for every thickness of each table: one
--- law with base, reference, power and root open, and what it says of the four tables.
+-- "Each entry is the largest whole number whose fifth or tenth power keeps to the rule", for every thickness of each table: one law for
+-- any rule, and that no rule gives more than `longestTime`.
 use Prim.Native.Nat.{ℕ, suc, _*_, _^_, _<_, _≤_}
 use mathlib.Core.Path.{_≡_, ap, _∙_}
-use mathlib.Core.Bool.{true, false, not}
+use mathlib.Core.Bool.{Bool, true, false, not, _&&_}
 use native.Mathlib.Omega.{arith}
 use native.Mathlib.Nat.{zero-mul, pow-succ', mul-le-mul-left, mul-le-mul-right, pow-le-pow-left}
 use borrow.Author.Tests.{le-leb, leb-false, lt-leb}
-use lib.Dec.{T}
-use Rattle.numbers.proofs.Booleans.{T-false}
+use lib.Dec.{T, ltb, ltb→lt}
+use Rattle.numbers.proofs.Booleans.{T-false, T-left, T-right}
 use Rattle.numbers.specs.Largest.{IsLargest}
 use Rattle.numbers.proofs.LargestKept.{largest-found, largest-within}
-use Rattle.basic_times.specs.Rules.{keeps, basicTime, gypsumProtection, gypsumInsulation, woodProtection, woodInsulation}
+use Rattle.panel.specs.declared.Material.{Material}
+use Rattle.panel.specs.declared.Material.the-variants.{Gypsum, Wood, Osb, ParticleBoard}
+use Rattle.panel.specs.Materials.{thickest}
+use Rattle.basic_times.specs.declared.Role.{Role}
+use Rattle.basic_times.specs.declared.Role.the-variants.{Protection, Insulation}
+use Rattle.basic_times.specs.Rules.{longestTime, Rule, keeps, largestTime, ruleOf, basicTime}
 
--- 0 keeps to every rule
-keeps-zero : (base reference power root h : ℕ) → keeps base reference power (suc root) h 0 ≡ true
-keeps-zero base reference power root h =
-    let e : 0 ^ suc root * reference ^ power ≡ 0 = ap (λ (k : ℕ). k * reference ^ power) (pow-succ' 0 root ∙ zero-mul (0 ^ root))
-    ∙ zero-mul (reference ^ power) in
-    le-leb (0 ^ suc root * reference ^ power) (base ^ suc root * h ^ power) (omega arith)
+-- what does not keep to a rule at the greatest thickness keeps to it at no smaller one, and nor does a greater number
+fails-on : (r : Rule) (h top n m : ℕ) → h ≤ top → n ≤ m → keeps r top n ≡ false → keeps r h m ≡ false
+fails-on r h top n m hh nm e =
+    let base = (r .base) ^ (r .root) in
+    let scale = (r .reference) ^ (r .power) in
+    let far : base * top ^ (r .power) < n ^ (r .root) * scale = leb-false (n ^ (r .root) * scale) (base * top ^ (r .power)) e in
+    let less : base * h ^ (r .power) ≤ base * top ^ (r .power) = mul-le-mul-left base (pow-le-pow-left hh (r .power)) in
+    let more : n ^ (r .root) * scale ≤ m ^ (r .root) * scale = mul-le-mul-right scale (pow-le-pow-left nm (r .root)) in
+    lt-leb (m ^ (r .root) * scale) (base * h ^ (r .power)) (omega arith)
 
--- what does not keep to the rule at the greatest thickness keeps to it at no smaller one, and nor does a greater number
-fails-on :
-    (base reference power root h top n m : ℕ) → h ≤ top → n ≤ m → keeps base reference power root top n ≡ false
-    → keeps base reference power root h m ≡ false
-fails-on base reference power root h top n m hh nm e =
-    let far : base ^ root * top ^ power < n ^ root * reference ^ power = leb-false (n ^ root * reference ^ power) (base ^ root * top ^ power) e in
-    let less : base ^ root * h ^ power ≤ base ^ root * top ^ power = mul-le-mul-left (base ^ root) (pow-le-pow-left hh power) in
-    let more : n ^ root * reference ^ power ≤ m ^ root * reference ^ power = mul-le-mul-right (reference ^ power) (pow-le-pow-left nm root) in
-    lt-leb (m ^ root * reference ^ power) (base ^ root * h ^ power) (omega arith)
+-- 0 keeps to every rule with a root
+keeps-zero : (r : Rule) (h : ℕ) → 0 < r .root → keeps r h 0 ≡ true
+keeps-zero r h pos =
+    le-leb (0 ^ (r .root) * (r .reference) ^ (r .power)) ((r .base) ^ (r .root) * h ^ (r .power))
+    (omega (arith, none (r .root) ((r .reference) ^ (r .power)) pos))
+  where
+    none : (root scale : ℕ) → 0 < root → 0 ^ root * scale ≡ 0
+    none (suc root) scale pos = ap (λ (k : ℕ). k * scale) (pow-succ' 0 root ∙ zero-mul (0 ^ root)) ∙ zero-mul scale
+
+-- up to the thickness `top` no number above `longestTime` keeps to the rule
+abbrev pub bounded : Rule → ℕ → Bool
+bounded r top = ltb 0 (r .root) && not (keeps r top (suc longestTime))
+
+pub rule-largest : (r : Rule) (top : ℕ) → T (bounded r top) → (h : ℕ) → h ≤ top → IsLargest (keeps r h) (largestTime r h)
+unfolding largestTime
+rule-largest r top t h l =
+    let root = ltb 0 (r .root) in
+    let beyond = keeps r top (suc longestTime) in
+    largest-found (keeps r h) longestTime (keeps-zero r h (ltb→lt 0 (r .root) (T-left root (not beyond) t)))
+    (λ m k. fails-on r h top (suc longestTime) m l k (T-false beyond (T-right root (not beyond) t)))
+
+-- Every table
+
+all-bounded : (role : Role) (m : Material) → T (bounded (ruleOf role m) (thickest m))
+all-bounded Protection Gypsum = tt
+all-bounded Insulation Gypsum = tt
+all-bounded Protection Wood = tt
+all-bounded Insulation Wood = tt
+all-bounded Protection Osb = tt
+all-bounded Insulation Osb = tt
+all-bounded Protection ParticleBoard = tt
+all-bounded Insulation ParticleBoard = tt
 
 pub basic-largest :
-    (base reference power root top : ℕ) → T (not (keeps base reference power (suc root) top (suc (5 * base))))
-    → (h : ℕ) → h ≤ top → IsLargest (keeps base reference power (suc root) h) (basicTime base reference power (suc root) h)
-unfolding basicTime
-basic-largest base reference power root top t h l =
-    largest-found (keeps base reference power (suc root) h) (5 * base) (keeps-zero base reference power root h)
-    (λ m k.
-    fails-on base reference power (suc root) h top (suc (5 * base)) m l k
-    (T-false (keeps base reference power (suc root) top (suc (5 * base))) t))
+    (role : Role) (m : Material) (h : ℕ) → h ≤ thickest m → IsLargest (keeps (ruleOf role m) h) (basicTime role m h)
+basic-largest role m = rule-largest (ruleOf role m) (thickest m) (all-bounded role m)
 
--- no basic time is above five times its base
-pub basic-most : (base reference power root h : ℕ) → basicTime base reference power root h ≤ 5 * base
-unfolding basicTime
-basic-most base reference power root h = largest-within (keeps base reference power root h) (5 * base)
-
--- the four tables
-pub gypsum-protection-largest : (h : ℕ) → h ≤ 250 → IsLargest (keeps 3000 150 6 5 h) (gypsumProtection h)
-gypsum-protection-largest = basic-largest 3000 150 6 4 250 tt
-
-pub gypsum-insulation-largest : (h : ℕ) → h ≤ 250 → IsLargest (keeps 2400 150 7 5 h) (gypsumInsulation h)
-gypsum-insulation-largest = basic-largest 2400 150 7 4 250 tt
-
-pub wood-protection-largest : (h : ℕ) → h ≤ 600 → IsLargest (keeps 3000 200 11 10 h) (woodProtection h)
-wood-protection-largest = basic-largest 3000 200 11 9 600 tt
-
-pub wood-insulation-largest : (h : ℕ) → h ≤ 600 → IsLargest (keeps 1900 200 7 5 h) (woodInsulation h)
-wood-insulation-largest = basic-largest 1900 200 7 4 600 tt
+pub basic-most : (role : Role) (m : Material) (h : ℕ) → basicTime role m h ≤ longestTime
+unfolding largestTime
+basic-most role m h = largest-within (keeps (ruleOf role m) h) longestTime

@@ -1,20 +1,22 @@
--- What the open calls of this crate answer, by document 01's number: "A bare thickness outside its table meets 8 for a board and
--- 11 for a lamella".
+-- What the open call of this crate answers, by document 01's number: "A bare thickness outside its table meets 8 for a board and 11 for a
+-- lamella".
 use Prim.Native.Nat.{ℕ}
-use Rattle.numbers.specs.Choice.{pick, outside}
-use Rattle.panel.specs.Ranges.{gypsumThinnest, gypsumThickest, woodThinnest, woodThickest}
-use Rattle.limits.specs.Lines.{answer}
+use mathlib.Core.Bool.{true, false}
+use Rattle.panel.specs.declared.Material.{Material}
+use Rattle.panel.specs.declared.Material.the-variants.{Gypsum, Wood, Osb, ParticleBoard}
+use Rattle.panel.specs.Materials.{badThickness}
+use Rattle.basic_times.specs.declared.Role.{Role}
 use Rattle.basic_times.specs.declared.TimeAnswer.{TimeAnswer}
 use Rattle.basic_times.specs.declared.TimeAnswer.the-variants.{Time, Refused}
+use Rattle.basic_times.specs.Rules.{basicTime}
 
--- the basic time at a thickness from the least to the greatest of its table, or the refusal's number
-abbrev pub bareAnswer : ℕ → ℕ → ℕ → (ℕ → ℕ) → ℕ → TimeAnswer
-bareAnswer number least greatest time h = answer (pick (outside least greatest h) number 0) Refused (Time (time h))
+-- the line that a bare thickness meets, by the place of such a layer
+abbrev pub bareLine : Material → ℕ
+bareLine Gypsum = 8
+bareLine Wood = 11
+bareLine Osb = 8
+bareLine ParticleBoard = 8
 
--- gypsum boards have entries for 9.0 to 25.0 mm
-abbrev pub gypsumAnswer : (ℕ → ℕ) → ℕ → TimeAnswer
-gypsumAnswer = bareAnswer 8 gypsumThinnest gypsumThickest
-
--- lamellae, as solid wood, for 10.0 to 60.0 mm
-abbrev pub woodAnswer : (ℕ → ℕ) → ℕ → TimeAnswer
-woodAnswer = bareAnswer 11 woodThinnest woodThickest
+-- the basic time at a thickness of its table, or the refusal's number
+unfoldable pub timeAnswer : Role → Material → ℕ → TimeAnswer
+timeAnswer role m h = elim (badThickness m h) [ true ↦ Refused (bareLine m) | false ↦ Time (basicTime role m h) ]

@@ -1,45 +1,28 @@
-// The open calls of this crate: the basic times at a bare thickness in tenths of mm. They ask nothing of their caller.
+// The open call of this crate: the basic time at a bare thickness in tenths of mm. It asks nothing of its caller.
+use crate::Role;
 use crate::TimeAnswer;
-use panel::ranges::GYPSUM_THICKEST;
-use panel::ranges::GYPSUM_THINNEST;
-use panel::ranges::WOOD_THICKEST;
-use panel::ranges::WOOD_THINNEST;
+use crate::times::time_at;
+use panel::Material;
+use panel::materials::bad_thickness;
 ghost use mathlib.Core.Path.{_≡_};
-ghost use Rattle.basic_times.specs.Answers.{gypsumAnswer, woodAnswer};
-ghost use Rattle.basic_times.specs.Rules.{gypsumProtection, gypsumInsulation, woodProtection, woodInsulation};
+ghost use Rattle.basic_times.specs.Answers.{bareLine, timeAnswer};
 
-pub fn gypsum_protection(h: u16) -> TimeAnswer
-    ensures { λ r. ⌜ r ≡ gypsumAnswer gypsumProtection h ⌝ }
+fn bare_line(m: Material) -> u8
+    ensures { λ r. ⌜ r ≡ bareLine m ⌝ }
 {
-    if (h < GYPSUM_THINNEST) | (GYPSUM_THICKEST < h) {
-        return TimeAnswer::Refused(8);
+    match m {
+        Material::Gypsum => 8,
+        Material::Wood => 11,
+        Material::Osb => 8,
+        Material::ParticleBoard => 8,
     }
-    TimeAnswer::Time(crate::gypsum_protection::at(h))
 }
 
-pub fn gypsum_insulation(h: u16) -> TimeAnswer
-    ensures { λ r. ⌜ r ≡ gypsumAnswer gypsumInsulation h ⌝ }
+pub fn basic_time(role: Role, m: Material, h: u16) -> TimeAnswer
+    ensures { λ r. ⌜ r ≡ timeAnswer role m h ⌝ }
 {
-    if (h < GYPSUM_THINNEST) | (GYPSUM_THICKEST < h) {
-        return TimeAnswer::Refused(8);
+    if bad_thickness(m, h) {
+        return TimeAnswer::Refused(bare_line(m));
     }
-    TimeAnswer::Time(crate::gypsum_insulation::at(h))
-}
-
-pub fn wood_protection(h: u16) -> TimeAnswer
-    ensures { λ r. ⌜ r ≡ woodAnswer woodProtection h ⌝ }
-{
-    if (h < WOOD_THINNEST) | (WOOD_THICKEST < h) {
-        return TimeAnswer::Refused(11);
-    }
-    TimeAnswer::Time(crate::wood_protection::at(h))
-}
-
-pub fn wood_insulation(h: u16) -> TimeAnswer
-    ensures { λ r. ⌜ r ≡ woodAnswer woodInsulation h ⌝ }
-{
-    if (h < WOOD_THINNEST) | (WOOD_THICKEST < h) {
-        return TimeAnswer::Refused(11);
-    }
-    TimeAnswer::Time(crate::wood_insulation::at(h))
+    TimeAnswer::Time(time_at(role, m, h))
 }

@@ -1,20 +1,5 @@
 // Gypsum boards, protection: 30·(h/15)^1.2 min, in hundredths of a minute, rounded down, for 9.0 to 25.0 mm.
-use panel::ranges::GYPSUM_THINNEST;
-ghost use mathlib.Core.Path.{_≡_};
-ghost use Prim.Native.Nat.{_≤_};
-ghost use Rattle.panel.specs.Ranges.{gypsumThinnest, gypsumThickest};
-ghost use Rattle.basic_times.specs.Rules.{gypsumProtection};
-
-// No open call: the thickness, in tenths of mm, must be in the table.
-pub fn at(h: u16) -> u32
-    requires { ⌜ (gypsumThinnest ≤ h) × (h ≤ gypsumThickest) ⌝ }
-    ensures { λ r. ⌜ r ≡ gypsumProtection h ⌝ }
-{
-    let place = (h - GYPSUM_THINNEST) as usize;
-    TABLE[place]
-}
-
-const TABLE: [u32; 161] = [
+pub(crate) const TABLE: [u32; 161] = [
     1625,
     1646,
     1668,

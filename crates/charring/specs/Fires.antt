@@ -27,7 +27,7 @@ fastRun = 25000000000
 abbrev pub startOf : Panel → ℕ
 startOf p = charringStart (p .gap) (p .cladding)
 
--- "t_f = t_ch for A and H, the given time for F, 0 unclad."
+-- "t_f = t_ch for A and H, the given time for F, 0 unclad."; of O and P "t_f is the same time" as t_ch
 unfoldable pub failureOf : Panel → ℕ
 failureOf p = pick (typeF (p .cladding)) (p .«failure_time») (startOf p)
 

@@ -27,7 +27,7 @@ thick p e =
     let k = accepted-keeps p e in
     omega (
       arith,
-      lamella-keeps p k 0 (k .countLeast) .least,
+      lamella-keeps p k 0 (k .countLeast) .thickness .least,
       thickness-more (p .directions) (p .thicknesses) 0,
       thickness-prefix (p .directions) (p .thicknesses) 1 (p .count) (k .countLeast),
     )
@@ -128,8 +128,8 @@ unfolding linesFrom thickness
 deeper-from top [] back k h same = absurd (let z : ⊥ = omega arith in z)
 deeper-from top (l ∷ []) back k h same = let i : top < back = omega arith in face i
 deeper-from top (l ∷ m ∷ ls) back k h same =
-    let i : top < top + tenth * l .thickness = omega (arith, k .0 .least) in
-    next i (deeper-from (top + tenth * l .thickness) (m ∷ ls) back (k .1) (omega (arith, k .1 .0 .least)) (omega arith))
+    let i : top < top + tenth * l .thickness = omega (arith, k .0 .thickness .least) in
+    next i (deeper-from (top + tenth * l .thickness) (m ∷ ls) back (k .1) (omega (arith, k .1 .0 .thickness .least)) (omega arith))
 
 pub lines-deeper : (p : Panel) → panelRefusal p ≡ 0 → Deeper 0 (bondLines p) (backFace p)
 unfolding bondLines

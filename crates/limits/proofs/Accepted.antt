@@ -16,15 +16,18 @@ use Rattle.panel.specs.declared.Cladding.{Cladding}
 use Rattle.panel.specs.declared.Cladding.the-variants.{Unclad, One, Two}
 use Rattle.panel.specs.declared.Panel.{Panel}
 use Rattle.panel.specs.Lamellae.{Lamella, lamella, lamellae, lamellaeOf, thickness}
-use Rattle.panel.specs.Ranges.{woodThinnest, woodThickest, thinnestBoard, thickestBoard}
-use Rattle.panel.specs.Boards.{typeF, wholeJoint, gapLoss, innerGain, charringStart}
+use Rattle.panel.specs.declared.Material.{Material}
+use Rattle.panel.specs.declared.Material.the-variants.{Wood}
+use Rattle.panel.specs.Materials.{thinnest, thickest, badThickness}
+use Rattle.panel.specs.Boards.{known, woodBased, materialOf, isF, typeF, wholeJoint, gapLoss, innerGain, charringStart}
 use Rattle.panel.proofs.Used.{length-lamellaeOf, getD-lamellaeOf}
+use Rattle.panel.proofs.Thicknesses.{thinnest-least}
 use Rattle.section.specs.Tests.{SectionFits, depthPasses}
 use Rattle.limits.specs.declared.ByteFaults.{ByteFaults}
 use Rattle.limits.specs.Lines.{refusal, NoneFits, causeOf, First}
-use Rattle.limits.specs.Causes.{badLoad, badBoard, badBoards, badCount, badLamella, badLamellae, some}
+use Rattle.limits.specs.Causes.{badLoad, badTypes, badBoard, badBoards, badCount, badLamella, badLamellae, some}
 use Rattle.limits.specs.Refusals.{noBytes, tableLines, panelLines, panelRefusal}
-use Rattle.limits.specs.Keeps.{BoardKeeps, CladdingKeeps, LamellaKeeps, LamellaeKeep, ThicknessesKeep, Keeps, StartWhole}
+use Rattle.limits.specs.Keeps.{ThicknessKeeps, TypesKeep, BoardKeeps, CladdingKeeps, LamellaKeeps, LamellaeKeep, ThicknessesKeep, Keeps, StartWhole}
 use Rattle.limits.proofs.FirstLine.{accepted-iff, refusal-first, cause-none}
 
 -- what lines 5, 10 and 11 leave: the section test fits its numbers
@@ -56,12 +59,29 @@ unfolding panelRefusal
 accepted-cause p e = cause-none (panelLines p) tt e
 
 -- what each line leaves
+pub thickness-keeps : (m : Material) (h : ℕ) → badThickness m h ≡ false → ThicknessKeeps m h
+thickness-keeps m h e =
+    let within = in-range (thinnest m) (thickest m) h e in
+    record { least = within .0; most = within .1 }
+
+types-keep : (c : Cladding) → badTypes c ≡ false → TypesKeep c
+types-keep Unclad e = tt
+types-keep (One b) e = tt
+types-keep (Two outer inner) e =
+    let types =
+    not (known outer) || not (known inner) || (isF outer && not (isF inner)) || (not (isF outer) && isF inner) in
+    let first = or-none (types || woodBased outer) (woodBased inner) e in
+    (or-none types (woodBased outer) (first .0) .1, first .1)
+
 board-keeps : (b : Board) → badBoard b ≡ false → BoardKeeps b
 board-keeps b e =
-    let both = or-none (outside (thinnestBoard (b .kind)) (thickestBoard (b .kind)) (b .thickness)) (outside 1 wholeJoint (b .joint)) e in
-    let thick = in-range (thinnestBoard (b .kind)) (thickestBoard (b .kind)) (b .thickness) (both .0) in
+    let both = or-none (badThickness (materialOf (b .kind)) (b .thickness)) (outside 1 wholeJoint (b .joint)) e in
     let joint = in-range 1 wholeJoint (b .joint) (both .1) in
-    record { least = thick .0; most = thick .1; jointLeast = joint .0; jointMost = joint .1 }
+    record {
+      thickness = thickness-keeps (materialOf (b .kind)) (b .thickness) (both .0);
+      jointLeast = joint .0;
+      jointMost = joint .1;
+    }
 
 cladding-keeps : (c : Cladding) → badBoards c ≡ false → CladdingKeeps c
 cladding-keeps Unclad e = tt
@@ -83,9 +103,10 @@ unfolding some
 lamellae-keep [] e = tt
 lamellae-keep (l ∷ ls) e =
     let both = or-none (badLamella l) (some badLamella ls) e in
-    let one = or-none (ltb 1 (l .direction)) (outside woodThinnest woodThickest (l .thickness)) (both .0) in
-    let thick = in-range woodThinnest woodThickest (l .thickness) (one .1) in
-    (record { direction = ltb-false 1 (l .direction) (one .0); least = thick .0; most = thick .1 }, lamellae-keep ls (both .1))
+    let one = or-none (ltb 1 (l .direction)) (badThickness Wood (l .thickness)) (both .0) in (
+      record { direction = ltb-false 1 (l .direction) (one .0); thickness = thickness-keeps Wood (l .thickness) (one .1) },
+      lamellae-keep ls (both .1),
+    )
 
 -- an accepted panel keeps every limit
 pub accepted-keeps : (p : Panel) → panelRefusal p ≡ 0 → Keeps p
@@ -104,6 +125,7 @@ accepted-keeps p e =
       strengthLeast = in-range 1 400 (p .strength) (load .0) .0;
       countLeast = in-range 1 9 (p .count) (none 10) .0;
       section = section-fits p (none 5) (none 10) (none 11);
+      types = types-keep (p .cladding) (none 7);
       boards = cladding-keeps (p .cladding) (none 8);
       given = time .0;
       notGiven = time .1;
@@ -144,9 +166,7 @@ pub lamella-keeps :
 lamella-keeps p k i h = keep-at (p .directions) (p .thicknesses) (p .count) (k .each) i h
 
 pub thicknesses-keep : (p : Panel) → Keeps p → ThicknessesKeep (p .thicknesses) (p .count)
-thicknesses-keep p k i h =
-    let l = lamella-keeps p k i h in
-    (l .least, l .most)
+thicknesses-keep p k i h = lamella-keeps p k i h .thickness
 
 -- The start of charring
 
@@ -157,11 +177,14 @@ loss-most gap = go (eqb gap 1)
     go true = omega arith
     go false = omega arith
 
+board-least : (b : Board) → BoardKeeps b → 90 ≤ b .thickness
+board-least b k = le-trans (thinnest-least (materialOf (b .kind))) (k .thickness .least)
+
 start-of : (gap : ℕ) (c : Cladding) → CladdingKeeps c → StartWhole gap c
 start-of gap Unclad k = tt
-start-of gap (One b) k = omega (arith, loss-most gap, k .least)
+start-of gap (One b) k = omega (arith, loss-most gap, board-least b k)
 start-of gap (Two outer inner) k =
-    let loss : gapLoss gap ≤ 280 * outer .thickness = omega (arith, loss-most gap, k .0 .least) in
+    let loss : gapLoss gap ≤ 280 * outer .thickness = omega (arith, loss-most gap, board-least outer (k .0)) in
     le-trans loss (le-add-right (280 * outer .thickness) (innerGain inner * inner .thickness))
 
 -- t_ch of an accepted panel is never cut off at 0

@@ -9,8 +9,9 @@ use Rattle.panel.specs.declared.Cladding.{Cladding}
 use Rattle.panel.specs.declared.Cladding.the-variants.{Unclad, One, Two}
 use Rattle.panel.specs.declared.Panel.{Panel}
 use Rattle.panel.specs.Lamellae.{Lamella, lamellae, along, thickness}
-use Rattle.panel.specs.Ranges.{woodThinnest, woodThickest, thinnestBoard, thickestBoard}
-use Rattle.panel.specs.Boards.{known, isF, typeF, wholeJoint, charringStart}
+use Rattle.panel.specs.declared.Material.the-variants.{Wood}
+use Rattle.panel.specs.Materials.{badThickness}
+use Rattle.panel.specs.Boards.{known, woodBased, materialOf, isF, typeF, wholeJoint, charringStart}
 use Rattle.section.specs.Tests.{depthPasses}
 
 -- 3, bond, gap: "either above 1"
@@ -25,16 +26,17 @@ badRate p = outside 50 100 (p .rate)
 abbrev pub badLoad : Panel → Bool
 badLoad p = outside 1 400 (p .strength) || ltb 1000000 (p .moment)
 
--- 7, board types: "unknown, or F paired with A or H"
+-- 7, board types: "unknown, or F paired with A or H"; of O and P, "beside another board they meet 7"
 abbrev pub badTypes : Cladding → Bool
 badTypes Unclad = false
 badTypes (One b) = not (known b)
 badTypes (Two outer inner) =
     not (known outer) || not (known inner) || (isF outer && not (isF inner)) || (not (isF outer) && isF inner)
+    || woodBased outer || woodBased inner
 
--- 8, board numbers: "thickness outside 90 to 250, coefficient outside 1 to 100"
+-- 8, board numbers: "thickness outside 90 to 250, coefficient outside 1 to 100"; of O and P, "20.0 to 40.0 mm .. outside that range 8"
 abbrev pub badBoard : Board → Bool
-badBoard b = outside (thinnestBoard (b .kind)) (thickestBoard (b .kind)) (b .thickness) || outside 1 wholeJoint (b .joint)
+badBoard b = badThickness (materialOf (b .kind)) (b .thickness) || outside 1 wholeJoint (b .joint)
 
 abbrev pub badBoards : Cladding → Bool
 badBoards Unclad = false
@@ -53,7 +55,7 @@ badCount count = outside 1 9 count
 
 -- 11, lamellae: "direction above 1, thickness outside 100 to 600, sum above 4,000"
 abbrev pub badLamella : Lamella → Bool
-badLamella l = ltb 1 (l .direction) || outside woodThinnest woodThickest (l .thickness)
+badLamella l = ltb 1 (l .direction) || badThickness Wood (l .thickness)
 
 -- whether a test holds of some lamella
 unfoldable pub some : (Lamella → Bool) → List Lamella → Bool

@@ -9,15 +9,27 @@ use Rattle.panel.specs.declared.Board.{Board}
 use Rattle.panel.specs.declared.Cladding.{Cladding}
 use Rattle.panel.specs.declared.Cladding.the-variants.{Unclad, One, Two}
 use Rattle.panel.specs.declared.Panel.{Panel}
-use Rattle.panel.specs.Ranges.{woodThinnest, woodThickest, thinnestBoard, thickestBoard}
-use Rattle.panel.specs.Boards.{typeF, wholeJoint, gapLoss, innerGain, charringStart}
+use Rattle.panel.specs.declared.Material.{Material}
+use Rattle.panel.specs.declared.Material.the-variants.{Wood}
+use Rattle.panel.specs.Materials.{thinnest, thickest}
+use Rattle.panel.specs.Boards.{woodBased, materialOf, typeF, wholeJoint, gapLoss, innerGain, charringStart}
 use Rattle.panel.specs.Lamellae.{Lamella, lamellae}
 use Rattle.section.specs.Tests.{SectionFits}
 
+-- a layer of the material may have the thickness h
+pub record ThicknessKeeps (m : Material) (h : ℕ) : Type 0 where
+  pub least : thinnest m ≤ h
+  pub most : h ≤ thickest m
+
+-- line 7: of two boards none is wood-based
+abbrev pub TypesKeep : Cladding → Type 0
+TypesKeep Unclad = Unit
+TypesKeep (One b) = Unit
+TypesKeep (Two outer inner) = (woodBased outer ≡ false) × (woodBased inner ≡ false)
+
 -- line 8
 pub record BoardKeeps (b : Board) : Type 0 where
-  pub least : thinnestBoard (b .kind) ≤ b .thickness
-  pub most : b .thickness ≤ thickestBoard (b .kind)
+  pub thickness : ThicknessKeeps (materialOf (b .kind)) (b .thickness)
   pub jointLeast : 1 ≤ b .joint
   pub jointMost : b .joint ≤ wholeJoint
 
@@ -29,8 +41,7 @@ CladdingKeeps (Two outer inner) = BoardKeeps outer × BoardKeeps inner
 -- line 11
 pub record LamellaKeeps (l : Lamella) : Type 0 where
   pub direction : l .direction ≤ 1
-  pub least : woodThinnest ≤ l .thickness
-  pub most : l .thickness ≤ woodThickest
+  pub thickness : ThicknessKeeps Wood (l .thickness)
 
 abbrev pub LamellaeKeep : List Lamella → Type 0
 LamellaeKeep [] = Unit
@@ -38,7 +49,7 @@ LamellaeKeep (l ∷ ls) = LamellaKeeps l × LamellaeKeep ls
 
 -- the first n thicknesses of an array are those of lamellae
 abbrev pub ThicknessesKeep : List ℕ → ℕ → Type 0
-ThicknessesKeep ts n = (i : ℕ) → i < n → (woodThinnest ≤ getD ts i 0) × (getD ts i 0 ≤ woodThickest)
+ThicknessesKeep ts n = (i : ℕ) → i < n → ThicknessKeeps Wood (getD ts i 0)
 
 pub record Keeps (p : Panel) : Type 0 where
   -- line 3
@@ -51,6 +62,8 @@ pub record Keeps (p : Panel) : Type 0 where
   pub strengthLeast : 1 ≤ p .strength
   pub countLeast : 1 ≤ p .count
   pub section : SectionFits p
+  -- line 7
+  pub types : TypesKeep (p .cladding)
   -- line 8
   pub boards : CladdingKeeps (p .cladding)
   -- line 9: t_ch is no later than the given failure time of type F
@@ -59,7 +72,7 @@ pub record Keeps (p : Panel) : Type 0 where
   -- line 11
   pub each : LamellaeKeep (lamellae p)
 
--- the difference in t_ch is not cut off at 0
+-- the difference in t_ch behind gypsum is not cut off at 0
 abbrev pub StartWhole : ℕ → Cladding → Type 0
 StartWhole gap Unclad = Unit
 StartWhole gap (One b) = gapLoss gap ≤ 280 * b .thickness

@@ -2,14 +2,15 @@
 use numbers::words32::is_outside;
 use panel::Board;
 use panel::Cladding;
+use panel::Material;
 use panel::Panel;
-use panel::boards::bad_thickness;
 use panel::boards::charring_start;
 use panel::boards::is_f;
 use panel::boards::is_known;
+use panel::boards::is_wood_based;
+use panel::boards::material_of;
 use panel::boards::type_f;
-use panel::ranges::WOOD_THICKEST;
-use panel::ranges::WOOD_THINNEST;
+use panel::materials::bad_thickness;
 use section::test::depth_passes;
 ghost use mathlib.Core.Path.{_≡_};
 ghost use mathlib.Core.List.{List};
@@ -41,7 +42,12 @@ fn bad_pair(outer: Board, inner: Board) -> bool
 {
     let f = is_f(outer);
     let g = is_f(inner);
-    !is_known(outer) | !is_known(inner) | (f & !g) | (!f & g)
+    !is_known(outer)
+        | !is_known(inner)
+        | (f & !g)
+        | (!f & g)
+        | is_wood_based(outer)
+        | is_wood_based(inner)
 }
 
 pub(crate) fn bad_types(c: Cladding) -> bool
@@ -57,7 +63,7 @@ pub(crate) fn bad_types(c: Cladding) -> bool
 fn bad_board(b: Board) -> bool
     ensures { λ r. ⌜ r ≡ badBoard b ⌝ }
 {
-    bad_thickness(b) | ((b.joint < 1) | (100 < b.joint))
+    bad_thickness(material_of(b.kind), b.thickness) | ((b.joint < 1) | (100 < b.joint))
 }
 
 pub(crate) fn bad_boards(c: Cladding) -> bool
@@ -88,7 +94,7 @@ pub(crate) fn bad_count(count: usize) -> bool
 fn bad_lamella(direction: u8, thickness: u16) -> bool
     ensures { λ r. ⌜ r ≡ badLamella (lamella direction thickness) ⌝ }
 {
-    (1 < direction) | ((thickness < WOOD_THINNEST) | (WOOD_THICKEST < thickness))
+    (1 < direction) | bad_thickness(Material::Wood, thickness)
 }
 
 // No open call: the count must be at most 9.

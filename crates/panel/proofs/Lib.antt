@@ -1,1 +1,2 @@
 pub mod Used
+pub mod Thicknesses

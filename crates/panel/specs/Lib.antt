@@ -1,5 +1,5 @@
 pub mod Lamellae
-pub mod Ranges
+pub mod Materials
 pub mod Boards
 pub mod Timber
 pub mod Builds

@@ -1,11 +1,19 @@
 // The panel of document 01: lamellae, boards and load, and what follows from the boards alone, the start of charring.
 // A panel is plain data: what limits it keeps is the matter of the crate `limits`.
 pub mod boards;
-pub mod ranges;
+pub mod materials;
 pub mod timber;
 
 // A joint coefficient that takes nothing off, in hundredths.
 pub const WHOLE_JOINT: u8 = 100;
+
+// What a layer is made of: boards of gypsum, OSB or particle board, and lamellae of solid wood.
+pub enum Material {
+    Gypsum,
+    Wood,
+    Osb,
+    ParticleBoard,
+}
 
 // One board. The type is its ASCII letter, the thickness in tenths of mm, the joint coefficient in hundredths.
 pub struct Board {

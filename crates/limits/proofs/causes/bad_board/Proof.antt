@@ -7,4 +7,4 @@ returns : tie.Need-returns
 returns c = cc
 
 pub bad-board-spec : {M : Type 1} → statement M
-bad-board-spec = tie.close (tie.spec (λ c κs. search needs) returns)
+bad-board-spec = tie.close (tie.spec (λ c κs. search needs) (λ c κs. search needs) returns)
