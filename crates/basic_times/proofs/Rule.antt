@@ -64,6 +64,7 @@ pub basic-largest :
     (role : Role) (m : Material) (h : ℕ) → h ≤ thickest m → IsLargest (keeps (ruleOf role m) h) (basicTime role m h)
 basic-largest role m = rule-largest (ruleOf role m) (thickest m) (all-bounded role m)
 
-pub basic-most : (role : Role) (m : Material) (h : ℕ) → basicTime role m h ≤ longestTime
+-- no basic time is above `longestTime`
+pub time-kept : (role : Role) (m : Material) (h : ℕ) {t : ℕ} → t ≡ basicTime role m h → (t ≡ basicTime role m h) × (t ≤ longestTime)
 unfolding largestTime
-basic-most role m h = largest-within (keeps (ruleOf role m) h) longestTime
+time-kept role m h e = (e, rw e (largest-within (keeps (ruleOf role m) h) longestTime))

@@ -6,7 +6,7 @@ ghost use mathlib.Core.Path.{_≡_};
 ghost use Prim.Native.Nat.{_+_, _≤_};
 ghost use Rattle.panel.specs.Materials.{thinnest, thickest};
 ghost use Rattle.limits.specs.Keeps.{ThicknessKeeps};
-ghost use Rattle.basic_times.specs.Rules.{basicTime};
+ghost use Rattle.basic_times.specs.Rules.{longestTime, basicTime};
 
 fn protection_entry(m: Material, place: usize) -> u32
     requires { ⌜ thinnest m + place ≤ thickest m ⌝ }
@@ -35,7 +35,7 @@ fn insulation_entry(m: Material, place: usize) -> u32
 // No open call: a layer of the material must be allowed the thickness, in tenths of mm.
 pub fn time_at(role: Role, m: Material, h: u16) -> u32
     requires { ⌜ ThicknessKeeps m h ⌝ }
-    ensures { λ r. ⌜ r ≡ basicTime role m h ⌝ }
+    ensures { λ r. ⌜ (r ≡ basicTime role m h) × (r ≤ longestTime) ⌝ }
 {
     let place = (h - thinnest(m)) as usize;
     match role {

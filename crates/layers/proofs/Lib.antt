@@ -1,4 +1,3 @@
-pub mod BasicTimes
 pub mod LateTimes
 pub mod Runs
 pub mod Unused

@@ -5,19 +5,20 @@ use mathlib.Core.List.{List, [], _∷_, _++_, map, map-append, append-assoc}
 use native.Mathlib.Numerals.{add-one}
 use lib.ListN.{getD}
 use Rattle.panel.specs.Lamellae.{lamella, lamellaeOf}
-use Rattle.layers.specs.Layers.{Layer, lamellaLayer, withProtection, withInsulation, protectedAfter, sumAfter}
+use Rattle.basic_times.specs.declared.Role.the-variants.{Protection, Insulation}
+use Rattle.layers.specs.Layers.{Layer, lamellaLayer, withLayer, protectedAfter, sumAfter}
 
 protected-append : (s : ℕ) (xs ys : List Layer) → protectedAfter s (xs ++ ys) ≡ protectedAfter (protectedAfter s xs) ys
 unfolding protectedAfter
 protected-append s [] ys = refl
-protected-append s (x ∷ xs) ys = protected-append (withProtection s x) xs ys
+protected-append s (x ∷ xs) ys = protected-append (withLayer Protection s x) xs ys
 
 -- all layers but the last by protection, the last by insulation
-pub sum-last : (s : ℕ) (xs : List Layer) (x : Layer) → sumAfter s (xs ++ (x ∷ [])) ≡ withInsulation (protectedAfter s xs) x
+pub sum-last : (s : ℕ) (xs : List Layer) (x : Layer) → sumAfter s (xs ++ (x ∷ [])) ≡ withLayer Insulation (protectedAfter s xs) x
 unfolding protectedAfter sumAfter
 sum-last s [] x = refl
 sum-last s (y ∷ []) x = refl
-sum-last s (y ∷ z ∷ xs) x = sum-last (withProtection s y) (z ∷ xs) x
+sum-last s (y ∷ z ∷ xs) x = sum-last (withLayer Protection s y) (z ∷ xs) x
 
 wood-more :
     (gs ts : List ℕ) (i : ℕ)
@@ -29,7 +30,7 @@ wood-more gs ts i = map-append lamellaLayer (lamellaeOf gs ts i) (lamella (getD 
 pub protected-more :
     (s : ℕ) (gs ts : List ℕ) (i : ℕ)
     → protectedAfter s (map lamellaLayer (lamellaeOf gs ts (i + 1)))
-    ≡ withProtection (protectedAfter s (map lamellaLayer (lamellaeOf gs ts i))) (lamellaLayer (lamella (getD gs i 0) (getD ts i 0)))
+    ≡ withLayer Protection (protectedAfter s (map lamellaLayer (lamellaeOf gs ts i))) (lamellaLayer (lamella (getD gs i 0) (getD ts i 0)))
 unfolding protectedAfter
 protected-more s gs ts i =
     ap (λ (k : ℕ). protectedAfter s (map lamellaLayer (lamellaeOf gs ts k))) (add-one i)
@@ -40,7 +41,7 @@ protected-more s gs ts i =
 pub sum-of :
     (bs : List Layer) (gs ts : List ℕ) (i : ℕ)
     → sumAfter 0 (bs ++ map lamellaLayer (lamellaeOf gs ts (i + 1)))
-    ≡ withInsulation (protectedAfter (protectedAfter 0 bs) (map lamellaLayer (lamellaeOf gs ts i))) (lamellaLayer (lamella (getD gs i 0) (getD ts i 0)))
+    ≡ withLayer Insulation (protectedAfter (protectedAfter 0 bs) (map lamellaLayer (lamellaeOf gs ts i))) (lamellaLayer (lamella (getD gs i 0) (getD ts i 0)))
 sum-of bs gs ts i =
     let ws = map lamellaLayer (lamellaeOf gs ts i) in
     let x = lamellaLayer (lamella (getD gs i 0) (getD ts i 0)) in
@@ -48,4 +49,4 @@ sum-of bs gs ts i =
     ∙ ap (λ (l : List Layer). sumAfter 0 (bs ++ l)) (wood-more gs ts i)
     ∙ ap (sumAfter 0) (sym (append-assoc bs ws (x ∷ [])))
     ∙ sum-last 0 (bs ++ ws) x
-    ∙ ap (λ (k : ℕ). withInsulation k x) (protected-append 0 bs ws)
+    ∙ ap (λ (k : ℕ). withLayer Insulation k x) (protected-append 0 bs ws)

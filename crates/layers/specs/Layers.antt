@@ -6,10 +6,13 @@ use lib.Dec.{leb}
 use Rattle.numbers.specs.Largest.{largest}
 use Rattle.panel.specs.declared.Board.{Board}
 use Rattle.panel.specs.declared.Panel.{Panel}
-use Rattle.panel.specs.Boards.{boardsOf, wholeJoint}
+use Rattle.panel.specs.declared.Material.the-variants.{Wood}
+use Rattle.panel.specs.Boards.{boardsOf, materialOf, wholeJoint}
 use Rattle.panel.specs.Lamellae.{Lamella, lamellae}
 use Rattle.limits.specs.Causes.{lastMinute}
-use Rattle.basic_times.specs.Rules.{partsPerMinute, gypsumProtection, gypsumInsulation, woodProtection, woodInsulation}
+use Rattle.basic_times.specs.declared.Role.{Role}
+use Rattle.basic_times.specs.declared.Role.the-variants.{Protection, Insulation}
+use Rattle.basic_times.specs.Rules.{partsPerMinute, basicTime}
 
 -- "From the exposed side": a board or a lamella
 pub data Layer : Type 0 where
@@ -20,14 +23,10 @@ pub data Layer : Type 0 where
 abbrev pub layersOf : Panel → List Layer
 layersOf p = map boardLayer (boardsOf (p .cladding)) ++ map lamellaLayer (lamellae p)
 
--- basic times
-unfoldable pub protection : Layer → ℕ
-protection (boardLayer b) = gypsumProtection (b .thickness)
-protection (lamellaLayer l) = woodProtection (l .thickness)
-
-unfoldable pub insulation : Layer → ℕ
-insulation (boardLayer b) = gypsumInsulation (b .thickness)
-insulation (lamellaLayer l) = woodInsulation (l .thickness)
+-- the basic time of a layer: a board goes by its type, a lamella is solid wood
+unfoldable pub timeOf : Role → Layer → ℕ
+timeOf role (boardLayer b) = basicTime role (materialOf (b .kind)) (b .thickness)
+timeOf role (lamellaLayer l) = basicTime role Wood (l .thickness)
 
 -- "its joint coefficient (lamella 100)", hundredths
 unfoldable pub jointOf : Layer → ℕ
@@ -48,22 +47,19 @@ abbrev pub layerTime : ℕ → ℕ → ℕ → ℕ
 layerTime s t joint = positioned s t * joint / wholeJoint
 
 -- the sum with one more layer, by protection or by insulation time
-unfoldable pub withProtection : ℕ → Layer → ℕ
-withProtection s x = s + layerTime s (protection x) (jointOf x)
-
-unfoldable pub withInsulation : ℕ → Layer → ℕ
-withInsulation s x = s + layerTime s (insulation x) (jointOf x)
+unfoldable pub withLayer : Role → ℕ → Layer → ℕ
+withLayer role s x = s + layerTime s (timeOf role x) (jointOf x)
 
 -- a run of layers, all by protection, after a sum s
 unfoldable pub protectedAfter : ℕ → List Layer → ℕ
 protectedAfter s [] = s
-protectedAfter s (x ∷ xs) = protectedAfter (withProtection s x) xs
+protectedAfter s (x ∷ xs) = protectedAfter (withLayer Protection s x) xs
 
 -- "All layers but the last use protection time, the last insulation time": the sum of a run of layers after a sum s
 unfoldable pub sumAfter : ℕ → List Layer → ℕ
 sumAfter s [] = s
-sumAfter s (x ∷ []) = withInsulation s x
-sumAfter s (x ∷ y ∷ xs) = sumAfter (withProtection s x) (y ∷ xs)
+sumAfter s (x ∷ []) = withLayer Insulation s x
+sumAfter s (x ∷ y ∷ xs) = sumAfter (withLayer Protection s x) (y ∷ xs)
 
 unfoldable pub eiSum : Panel → ℕ
 eiSum p = sumAfter 0 (layersOf p)

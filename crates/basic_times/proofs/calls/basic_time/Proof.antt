@@ -20,7 +20,7 @@ time-at-requires c κs =
 returns-2 : tie.Need-returns-2
 unfolding timeAnswer
 returns-2 c =
-    rw (timeAnswer, sym (c .before .before .bad-thickness .ensures) ∙ c .before .if1 .left) (ap Time (c .time-at .ensures))
+    rw (timeAnswer, sym (c .before .before .bad-thickness .ensures) ∙ c .before .if1 .left) (ap Time (c .time-at .ensures .0))
 
 pub basic-time-spec : {M : Type 1} → statement M
 basic-time-spec =

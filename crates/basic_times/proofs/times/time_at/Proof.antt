@@ -4,6 +4,7 @@ use Rattle.panel.specs.Materials.{thinnest}
 use Rattle.basic_times.specs.declared.Role.{Role}
 use Rattle.basic_times.specs.declared.Role.the-variants.{Protection, Insulation}
 use Rattle.basic_times.specs.Rules.{basicTime}
+use Rattle.basic_times.proofs.Rule.{time-kept}
 use borrow.Author.Needs.{needs}
 use mathlib.Core.Path.{_≡_, sym, ap, _∙_}
 use native.Mathlib.Omega.{arith}
@@ -14,17 +15,19 @@ returns : tie.Need-returns
 returns c =
     let s = c .before .before .before in
     let a = s .before .args in
-    c .protection-entry .ensures
+    time-kept (a .role) (a .m) (a .h)
+    (c .protection-entry .ensures
     ∙ ap (basicTime Protection (a .m)) (omega arith)
-    ∙ ap (λ (r : Role). basicTime r (a .m) (a .h)) (sym (c .before .enum-told .given .1))
+    ∙ ap (λ (r : Role). basicTime r (a .m) (a .h)) (sym (c .before .enum-told .given .1)))
 
 returns-2 : tie.Need-returns-2
 returns-2 c =
     let s = c .before .before .before in
     let a = s .before .args in
-    c .insulation-entry .ensures
+    time-kept (a .role) (a .m) (a .h)
+    (c .insulation-entry .ensures
     ∙ ap (basicTime Insulation (a .m)) (omega arith)
-    ∙ ap (λ (r : Role). basicTime r (a .m) (a .h)) (sym (c .before .enum-told2 .given .1))
+    ∙ ap (λ (r : Role). basicTime r (a .m) (a .h)) (sym (c .before .enum-told2 .given .1)))
 
 pub time-at-spec : {M : Type 1} → statement M
 time-at-spec =

@@ -1,5 +1,6 @@
 -- `layers::step::layer_time` meets its contract: a coefficient of at most 100 makes no time longer. Assumes nothing.
 use Prim.Native.Nat.{ℕ, _*_, _/_, _≤_}
+use Rattle.basic_times.specs.Rules.{longestTime}
 use Rattle.numbers.proofs.Products.{times}
 use borrow.Author.Needs.{needs}
 use mathlib.Core.Path.{ap}
@@ -10,15 +11,15 @@ use Rattle.layers.proofs.step.layer_time.Tie as tie
 
 mul-result : tie.Need-mul-result
 mul-result c =
-    let n : c .position .result ≤ 15000 = omega arith in
+    let n : c .position .result ≤ longestTime = omega arith in
     let j : c .before .args .joint ≤ 100 = search needs in
-    omega (arith, times (c .position .result) 15000 (c .before .args .joint) 100 n j)
+    omega (arith, times (c .position .result) longestTime (c .before .args .joint) 100 n j)
 
 cast-result : tie.Need-cast-result
 cast-result c =
-    let n : c .position .result ≤ 15000 = omega arith in
+    let n : c .position .result ≤ longestTime = omega arith in
     let j : c .before .args .joint ≤ 100 = search needs in
-    omega (arith, times (c .position .result) 15000 (c .before .args .joint) 100 n j)
+    omega (arith, times (c .position .result) longestTime (c .before .args .joint) 100 n j)
 
 returns : tie.Need-returns
 returns c =

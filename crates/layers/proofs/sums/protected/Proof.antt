@@ -1,8 +1,9 @@
 -- `layers::sums::protected` meets its contract: after i turns the sum is that of the first i lamellae. Assumes nothing.
 use Prim.Native.Nat.{ℕ, _+_, _-_, _*_, _≤_}
-use Rattle.layers.proofs.BasicTimes.{time-most}
 use Rattle.layers.proofs.Runs.{protected-more}
-use Rattle.layers.specs.Layers.{layerTime, withProtection, protection, jointOf, lamellaLayer, protectedAfter}
+use Rattle.basic_times.specs.declared.Role.the-variants.{Protection}
+use Rattle.basic_times.specs.Rules.{longestTime}
+use Rattle.layers.specs.Layers.{layerTime, withLayer, timeOf, jointOf, lamellaLayer, protectedAfter}
 use Rattle.panel.specs.Lamellae.{lamella, lamellaeOf}
 use lib.ListN.{getD}
 use mathlib.Core.List.{List, map}
@@ -12,7 +13,7 @@ use Rattle.layers.proofs.sums.protected.Statement.{statement}
 use Rattle.layers.proofs.sums.protected.Tie as tie
 
 abbrev Inv-loop : tie.InvT-loop
-Inv-loop s n thicknesses sum₀ i₀ sum i = (i ≤ n) × ((sum ≤ 30000 + 15000 * i) × ((gs : List ℕ) → sum ≡ protectedAfter s
+Inv-loop s n thicknesses sum₀ i₀ sum i = (i ≤ n) × ((sum ≤ 2 * longestTime + longestTime * i) × ((gs : List ℕ) → sum ≡ protectedAfter s
     (map lamellaLayer (lamellaeOf gs thicknesses i))))
 
 abbrev μ-loop : tie.MeasureT-loop
@@ -22,14 +23,14 @@ loop-holds : tie.Need-loop-holds Inv-loop μ-loop
 unfolding lamellaeOf protectedAfter
 loop-holds c = (omega arith, (omega arith, λ gs. refl))
 
-at-requires : tie.Need-at-requires Inv-loop μ-loop
-at-requires c κs = c .before .before .pre .1 .1 (c .before .loop .i) (omega arith)
+time-at-requires : tie.Need-time-at-requires Inv-loop μ-loop
+time-at-requires c κs = c .before .before .pre .1 .1 (c .before .loop .i) (omega arith)
 
-with-layer-requires : tie.Need-with-layer-requires Inv-loop μ-loop
-with-layer-requires c κs = (omega arith, (time-most _ _ _ _ _ (c .at .ensures) (omega arith), omega arith))
+with-time-requires : tie.Need-with-time-requires Inv-loop μ-loop
+with-time-requires c κs = (omega arith, (c .time-at .ensures .1, omega arith))
 
 loop-again : tie.Need-loop-again Inv-loop μ-loop
-unfolding withProtection protection jointOf
+unfolding withLayer timeOf jointOf
 loop-again c =
     let l = c .before .before .before in
     let s = l .before .args .s in
@@ -39,9 +40,9 @@ loop-again c =
       (
         omega arith,
         λ gs.
-            c .with-layer .ensures .0
-            ∙ ap (λ (t : ℕ). l .loop .sum + layerTime (l .loop .sum) t 100) (c .before .at .ensures)
-            ∙ ap (λ (k : ℕ). withProtection k (lamellaLayer (lamella (getD gs i 0) (getD ts i 0)))) (l .loop .inv .1 .1 gs)
+            c .with-time .ensures .0
+            ∙ ap (λ (t : ℕ). l .loop .sum + layerTime (l .loop .sum) t 100) (c .before .time-at .ensures .0)
+            ∙ ap (λ (k : ℕ). withLayer Protection k (lamellaLayer (lamella (getD gs i 0) (getD ts i 0)))) (l .loop .inv .1 .1 gs)
             ∙ sym (protected-more s gs ts i),
       ),
     )
@@ -57,5 +58,5 @@ returns c =
 pub protected-spec : {M : Type 1} → statement M
 protected-spec =
     tie.close
-    (tie.spec Inv-loop μ-loop loop-holds (λ c. omega arith) (λ c. omega arith) at-requires with-layer-requires (λ c. omega arith)
+    (tie.spec Inv-loop μ-loop loop-holds (λ c. omega arith) (λ c. omega arith) time-at-requires with-time-requires (λ c. omega arith)
     (λ c. omega arith) loop-again returns)

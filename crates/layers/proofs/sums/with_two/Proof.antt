@@ -1,6 +1,7 @@
 -- `layers::sums::with_two` meets its contract: the inner board stands behind the outer. Assumes nothing.
 use Prim.Native.Nat.{ℕ}
-use Rattle.layers.specs.Layers.{withProtection, boardLayer, protectedAfter}
+use Rattle.basic_times.specs.declared.Role.the-variants.{Protection}
+use Rattle.layers.specs.Layers.{withLayer, boardLayer, protectedAfter}
 use borrow.Author.Needs.{needs}
 use mathlib.Core.Path.{ap, _∙_}
 use native.Mathlib.Omega.{arith}
@@ -10,7 +11,7 @@ use Rattle.layers.proofs.sums.with_two.Tie as tie
 returns : tie.Need-returns
 unfolding protectedAfter
 returns c = (
-  c .with-board2 .ensures .0 ∙ ap (λ (k : ℕ). withProtection k (boardLayer (c .before .before .args .inner)))
+  c .with-board2 .ensures .0 ∙ ap (λ (k : ℕ). withLayer Protection k (boardLayer (c .before .before .args .inner)))
       (c .before .with-board .ensures .0),
   omega arith,
 )
