@@ -1,4 +1,4 @@
-"""check.py [N]: holds peer.py to the figures of document 01 and of the notes on its readings, and R to its definition on
+"""check.py [N]: holds peer.py to the figures of documents 01 and 02 and of the notes on its readings, and R to its definition on
 the panels of test_cards and N random ones."""
 import argparse
 import random
@@ -6,8 +6,11 @@ from fractions import Fraction
 
 import peer
 import random_records
-from make_cases import (A, ALONG, F, G, RECOVERS, behind, crossed, falls, load_panels, one, plate, reading_cases, two,
+from make_cases import (A, ALONG, F, G, H, O, P, RECOVERS, behind, clad, crossed, falls, load_panels, one, plate, reading_cases, two,
                         with_first_lamella)
+from peer import Board
+
+ROLES = ("protection", "insulation")
 
 PRINTED = b"""CARD 1
 CHAR 30 19500 265
@@ -43,15 +46,26 @@ def check_document():
     same(peer.exact_failure(G), Fraction(6_740, 65))
     same([peer.load_minute(panel) for panel in (G, falls(G, 65), G._replace(moment=0))], [103, 84, 138])
     same([peer.depth_passes(RECOVERS, depth) for depth in (70, 71)], [False, True])
-    same([rule(150) for rule in (peer.gypsum_protection, peer.gypsum_insulation)], [3000, 2400])
-    same([rule(h) for h in (200, 400) for rule in (peer.wood_protection, peer.wood_insulation)], [3000, 1900, 6430, 5014])
-    same(peer.wood_insulation(300), 3351)
+    same([peer.entry(f"gypsum_{role}", 150) for role in ROLES], [3000, 2400])
+    same([peer.entry(f"wood_{role}", h) for h in (200, 400) for role in ROLES], [3000, 1900, 6430, 5014])
+    same(peer.entry("wood_insulation", 300), 3351)
     same([peer.ei_sum(panel) for panel in (G, crossed(20, 20, 20)._replace(boards=one().boards))], [9506, 5933])
     same([peer.panel_refusal(one(thickness=thickness)) for thickness in (89, 90, 250, 251)], [8, 0, 0, 8])
     same([peer.panel_refusal(with_first_lamella(G, ALONG, thickness)) for thickness in (99, 100)], [11, 0])
     same(peer.card_text(peer.encode(G)), PRINTED)
     same(peer.card_text(peer.encode(G._replace(moment=43_057))), b"REFUSED 13\n")
     same([peer.card_call(peer.encode(G), space) for space in (105, 104)], [(0, 105), (14, 0)])
+
+
+def check_wood_boards():
+    """Document 02, 1/14: at 20.0 mm the bases stand in the rules, and charring starts after 20 mm at 0.90 mm/min."""
+    same([peer.entry(f"{material}_{role}", 200) for material in ("osb", "particle_board") for role in ROLES], [2300, 1600, 3300, 2200])
+    same([peer.t_ch(one(O, 200, gap=gap)) for gap in (0, 1)], [22_222, 22_222])
+    for kind in (O, P):
+        same([peer.panel_refusal(one(kind, thickness)) for thickness in (199, 200, 400, 401)], [8, 0, 0, 8])
+        same([peer.panel_refusal(clad(Board(kind, 200, 100), Board(other, 200, 100))) for other in (A, F, H, O, P)], [7] * 5)
+        same([peer.panel_refusal(clad(Board(other, 200, 100), Board(kind, 200, 100))) for other in (A, F, H, O, P)], [7] * 5)
+        same(peer.panel_refusal(one(kind, 200, failure_time=1)), 9)
 
 
 def check_readings():
@@ -90,6 +104,7 @@ if __name__ == "__main__":
     words.add_argument("count", metavar="N", type=int, nargs="?", default=400)
     count = words.parse_args().count
     check_document()
+    check_wood_boards()
     check_readings()
     check_load_minutes(count)
     print("the peer agrees")

@@ -130,7 +130,7 @@ def cases(call, seed, count):
         elif call == "sum":
             yield random_layers(rng, record), text
         elif call == "time":
-            yield list(programs.TIMES)[number % 4], number // 4, text
+            yield list(programs.TIMES)[number % len(programs.TIMES)], number // len(programs.TIMES), text
         elif call == "grade":
             yield number, text
         elif call == "char":

@@ -10,7 +10,7 @@ import programs
 from peer import Board, Panel
 from random_records import greatest_moment
 
-A, F, H = b"AFH"
+A, F, H, O, P = b"AFHOP"
 ACROSS, ALONG = 0, 1
 
 # ---------------------------------------------------------------- Panels
@@ -92,6 +92,7 @@ def panel_cases():
     yield one()._replace(moment=43_057), "G under one board, moment 43,057"
     yield SHORTEST._replace(moment=1_000_000), "the shortest record, moment 1,000,000"
     yield from board_cases()
+    yield from wood_board_cases()
     yield from failure_time_cases()
     yield from lamella_cases()
 
@@ -104,14 +105,32 @@ def board_cases():
     for outer, inner in ((A, A), (H, H), (A, H), (H, A), (F, A), (A, F), (F, H), (H, F)):
         yield two(outer, inner), f"{chr(outer)} over {chr(inner)}"
     yield two(F, F, failure_time=49_000), "F over F"
-    yield two(A, ord("O")), "unknown type under A"
-    yield two(ord("P"), A), "unknown type over A"
+    yield two(A, ord("B")), "unknown type under A"
+    yield two(ord("Q"), A), "unknown type over A"
     for thickness in (0, 89, 90, 250, 251, 65_535):
         yield one(thickness=thickness), f"board {thickness:,}"
         yield clad(Board(H, 125, 100), Board(A, thickness, 100)), f"inner board {thickness:,}"
     for joint in (0, 1, 100, 101, 255):
         yield one(joint=joint), f"coefficient {joint}"
         yield clad(Board(H, 125, joint), Board(A, 125, 100)), f"outer coefficient {joint}"
+
+
+def wood_board_cases():
+    for kind in (O, P):
+        name = chr(kind)
+        for thickness in (0, 90, 199, 200, 201, 250, 251, 399, 400, 401, 65_535):
+            yield one(kind, thickness), f"{name} of {thickness:,}"
+        yield one(kind, 300, gap=1), f"{name}, wide gap"
+        for joint in (0, 1, 100, 101):
+            yield one(kind, 300, joint), f"{name}, coefficient {joint}"
+        for time in (1, peer.t_ch(one(kind, 300)), 360_000):
+            yield one(kind, 300, failure_time=time), f"{name}, given {time:,}"
+        for other in (A, F, H, O, P):
+            yield clad(Board(kind, 225, 100), Board(other, 225, 100)), f"{name} over {chr(other)}, both of 225"
+        for other in (A, F, H):
+            yield clad(Board(other, 225, 100), Board(kind, 225, 100)), f"{chr(other)} over {name}, both of 225"
+    yield one(ord("o"), 300), "small o"
+    yield one(ord("p"), 300), "small p"
 
 
 def failure_time_cases():
@@ -236,6 +255,8 @@ def order_cases():
     yield peer.encode(G._replace(moment=1_000_000, lamellae=((ACROSS, 300),))), "none along and section"
     yield peer.encode(G._replace(moment=1_000_000, lamellae=((ALONG, 601),))), "lamella thickness and section"
     yield peer.encode(G._replace(bond=2, moment=43_057)), "bond and section"
+    yield peer.encode(clad(Board(O, 199, 100), Board(A, 89, 100))), "O beside A, both too thin"
+    yield peer.encode(one(O, 401, failure_time=1)), "O too thick, given 1"
 
 
 def record_cases():
@@ -300,6 +321,9 @@ def build_cases():
     yield pair(one(), clad_g, "one board and two")
     yield pair(clad_g, G, "two boards and none")
     yield pair(one(A), one(H), "other type")
+    yield pair(one(O, 250), one(P, 250), "O and P")
+    yield pair(one(O, 250), one(O, 250, gap=1), "O, other gap")
+    yield pair(one(A, 250), one(O, 250), "A and O of one thickness")
     yield pair(one(thickness=125), one(thickness=126), "other board thickness")
     yield pair(one(joint=100), one(joint=99), "other coefficient")
     yield pair(two(A, H), two(H, A), "boards the other way round")
@@ -318,10 +342,15 @@ def build_cases():
     yield pair(G, G._replace(moment=43_057), "the second refused, so blank")
 
 
+WOOD_BOARD_TIMES = (201, 220, 250, 279, 300, 333, 399)
+
+
 def time_cases():
     """(kind, thickness, text): the ends of each table, one past them, document 01's figures and those of example A 1.4 of 000."""
     for layer, kinds, low, high, between in (("board", ("bp", "bi"), 90, 250, (91, 95, 100, 125, 150, 151, 180, 249)),
-                                             ("lamella", ("lp", "li"), 100, 600, (101, 150, 200, 201, 300, 333, 400, 512, 599))):
+                                             ("lamella", ("lp", "li"), 100, 600, (101, 150, 200, 201, 300, 333, 400, 512, 599)),
+                                             ("board of OSB", ("op", "oi"), 200, 400, WOOD_BOARD_TIMES),
+                                             ("particle board", ("pp", "pi"), 200, 400, WOOD_BOARD_TIMES)):
         for kind, what in zip(kinds, ("protection", "insulation")):
             for thickness in (0, low - 1, low) + between + (high, high + 1, 65_535):
                 yield kind, thickness, f"{what} by a {layer} of {thickness // 10:,}.{thickness % 10}"
@@ -403,6 +432,16 @@ def joint_cases():
         yield clad(Board(A, 125, outer), Board(H, 150, inner)), f"G under A 12.5 and H 15.0, coefficients {outer} and {inner}"
 
 
+def wood_board_layer_cases():
+    for kind, name in ((O, "OSB"), (P, "particle board")):
+        for thickness in (200, 279, 400):
+            for joint in (1, 80, 100):
+                yield one(kind, thickness, joint), f"G under {name} of {thickness}, coefficient {joint}"
+        yield one(kind, 250, gap=1), f"G under {name} of 250, wide gap"
+        yield crossed(20, 20, 20)._replace(boards=(Board(kind, 220, 100),)), f"three lamellae of 20 under {name} of 220"
+        yield SHORTEST._replace(boards=(Board(kind, 400, 100),)), f"one lamella of 10 under {name} of 400"
+
+
 def layer_panel_cases():
     yield G, "G"
     yield G._replace(lamellae=((ALONG, 300),) * 2 + ((ALONG, 400),)), "G's lamellae in another order, all along"
@@ -422,6 +461,7 @@ def layer_panel_cases():
     thickest = G._replace(moment=0, boards=(Board(H, 250, 100),) * 2, lamellae=((ALONG, 600),) * 6 + ((ALONG, 400),))
     yield thickest, "two boards of 25.0, 400 mm"
     yield from switch_cases()
+    yield from wood_board_layer_cases()
     yield from printed_cases()
     yield G._replace(moment=43_057), "a refused record, so a blank panel"
 
@@ -506,8 +546,19 @@ def char_kind_cases():
             name = "".join(map(chr, boards))
             panel = behind(G, *zip(boards, (150, 95)), failure_time=time, gap=gap)
             yield falls(panel, 73), (33, 77), f"{name} {joint}"
+    yield from wood_board_char_cases()
     yield THICK._replace(moment=0), (360,), "400 mm"
     yield falls(LONGEST, 100), (90, 130), "the longest record"
+
+
+def wood_board_char_cases():
+    """Around t_ch, 25 mm and 2·t_f; the gap changes nothing."""
+    for gap, joint in ((0, "narrow"), (1, "wide")):
+        yield behind(plate(600), (O, 200), gap=gap), (22, 23, 41, 42, 60), f"O 20.0, 25 mm first, {joint}"
+        yield behind(plate(600)._replace(rate=50), (O, 200), gap=gap), (22, 23, 44, 45, 60), f"O 20.0, 2 t_f first, {joint}"
+        yield behind(plate(600)._replace(rate=100), (P, 400), gap=gap), (44, 45, 56, 57), f"P 40.0, {joint}"
+    yield behind(plate(600)._replace(rate=50), (P, 225)), (24, 25, 26, 49, 50, 51), "P 22.5, t_ch 25 min"
+    yield falls(behind(crossed(10, 30, 30), (P, 279)), 80), (30, 31, 37, 38, 50), "P 27.9, t_ch 31 min, falling"
 
 
 # The minutes at which the panels of `reading_cases` about charring are asked.
@@ -562,6 +613,7 @@ def table_cases():
     for panel, text in reading_cases():
         if text in READING_MINUTES:
             yield 400, peer.encode(panel), text
+    yield 361, peer.encode(falls(one(O, 279), 65)), "O 27.9, falling"
     yield 400, peer.encode(THICK), "400 mm"
     yield 400, peer.encode(falls(LONGEST, 50)), "the longest record"
     yield 361, peer.encode(behind(THICK, (F, 250), (F, 250), failure_time=360_000)), "400 mm, two F 25.0, t_f 360"
@@ -599,8 +651,19 @@ def load_panels():
     yield behind(plate(600), (A, 90)), "A 9.0, fast up to 22.4 min"
     yield behind(plate(600), (A, 125)), "A 12.5, k0 full at 21 min"
     yield behind(G, (F, 125), (F, 125), failure_time=60_000), "two F 12.5, t_ch 49,000"
+    yield from wood_board_loads()
     yield LONG_CARD, "a long card"
     yield SHORT_CARD, "a short card"
+
+
+def wood_board_loads():
+    for kind in (O, P):
+        for thickness in (200, 300, 400):
+            yield one(kind, thickness), f"G behind {chr(kind)} of {thickness}"
+        yield one(kind, 300, gap=1), f"G behind {chr(kind)} of 300, wide gap"
+        yield falls(one(kind, 225), 73), f"G behind {chr(kind)} of 225, falling, rate 73"
+        yield behind(LASTING, (kind, 400)), f"400 mm, rate 50, moment 0, behind {chr(kind)} of 400"
+        yield behind(RECOVERS, (kind, 200)), f"the panel that recovers, behind {chr(kind)} of 200"
 
 
 def unstarred_cases():
@@ -732,6 +795,13 @@ def built_panels():
     yield one(F, failure_time=2 ** 32 - 1), "failure time 4,294,967,295 of F"
     yield clad(failure_time=2 ** 32 - 1), "failure time 4,294,967,295, unclad"
     yield clad(*(Board(F, 65_535, 255),) * 2, failure_time=2 ** 32 - 1), "two F at their greatest"
+    yield one(O, 200), "O 20.0"
+    yield one(P, 401), "P 40.1"
+    yield one(O, 65_535), "O of 65,535"
+    yield one(P, 400, failure_time=44_444), "P 40.0, t_ch given"
+    yield two(O, A), "O over A"
+    yield two(A, O), "O under A"
+    yield two(P, P), "P over P"
     yield G._replace(lamellae=()), "count 0"
     for count in ("10", "18,446,744,073,709,551,615"):
         yield G._replace(lamellae=((ALONG, 300),) * 10), f"count {count}"
@@ -774,7 +844,9 @@ def built_lines():
     a, f = Board(A, 125, 100), Board(F, 125, 100)
     for gap, boards, text in (
             (0, (), "unclad"), (0, (a,), "of A 12.5"), (1, (a,), "of A 12.5, wide gap"), (0, (a, a), "of two A 12.5"),
-            (0, (f, f), "of two F 12.5"), (1, (f, f), "of two F 12.5, wide gap"), (1, (Board(H, 90, 100),), "of H 9.0, wide gap")):
+            (0, (f, f), "of two F 12.5"), (1, (f, f), "of two F 12.5, wide gap"), (1, (Board(H, 90, 100),), "of H 9.0, wide gap"),
+            (0, (Board(O, 200, 100),), "of O 20.0"), (1, (Board(O, 200, 100),), "of O 20.0, wide gap"),
+            (0, (Board(P, 400, 100),), "of P 40.0")):
         yield f"{peer.t_ch(G._replace(gap=gap, boards=boards))} t_ch {text}\n"
 
 

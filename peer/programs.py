@@ -71,12 +71,9 @@ def build_answer(a, b, text):
     return f"{compared(panel_of(a), panel_of(b))} {text}"
 
 
-TIMES = {
-    "bp": (peer.board_time, peer.gypsum_protection),
-    "bi": (peer.board_time, peer.gypsum_insulation),
-    "lp": (peer.lamella_time, peer.wood_protection),
-    "li": (peer.lamella_time, peer.wood_insulation),
-}
+# the kind in a line of `time`: its table
+TIMES = {"bp": "gypsum_protection", "bi": "gypsum_insulation", "lp": "wood_protection", "li": "wood_insulation",
+         "op": "osb_protection", "oi": "osb_insulation", "pp": "particle_board_protection", "pi": "particle_board_insulation"}
 
 
 def time_line(kind, thickness, text):
@@ -84,8 +81,7 @@ def time_line(kind, thickness, text):
 
 
 def time_answer(kind, thickness, text):
-    time_at, rule = TIMES[kind]
-    refusal, time = time_at(rule, thickness)
+    refusal, time = peer.bare_time(TIMES[kind], thickness)
     return f"{refused(refusal) if refusal else time} {text}"
 
 

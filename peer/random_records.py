@@ -1,6 +1,6 @@
 """Random panel records for comparing runs. The same seed gives the same records.
 
-Half are within the limits of document 01, with weight on the limits' ends; the others have a field at or past a limit, or
+Half are within the limits of documents 01 and 02, with weight on the limits' ends; the others have a field at or past a limit, or
 are damaged: cut short, made longer, one byte changed, or no record at all.
 """
 import random
@@ -18,6 +18,8 @@ def end_or_between(rng, low, high):
 
 
 def random_boards(rng):
+    if rng.random() < 0.25:
+        return (Board(rng.choice(b"OP"), end_or_between(rng, 200, 400), end_or_between(rng, 1, 100)),)
     count = rng.choice([0, 1, 1, 2, 2])
     kinds = b"F" if rng.random() < 0.4 else b"AH"
     return tuple(Board(rng.choice(kinds), end_or_between(rng, 90, 250), end_or_between(rng, 1, 100)) for _ in range(count))
@@ -83,9 +85,9 @@ def at_a_limit(rng, panel):
         start = max(1, peer.t_ch(panel))
         return panel._replace(failure_time=rng.choice([0, 1, start - 1, start, 360_000, 360_001]))
     if field == "kind" and board is not None:
-        return with_board(panel, board, kind=rng.choice(b"AFHBGfh\0\xff"))
+        return with_board(panel, board, kind=rng.choice(b"AFHOPBGfhop\0\xff"))
     if field == "board" and board is not None:
-        return with_board(panel, board, thickness=rng.choice([0, 89, 90, 250, 251, 65535]))
+        return with_board(panel, board, thickness=rng.choice([0, 89, 90, 199, 200, 250, 251, 400, 401, 65535]))
     if field == "joint" and board is not None:
         return with_board(panel, board, joint=rng.choice([0, 1, 100, 101, 255]))
     if field == "lamella":
@@ -104,8 +106,8 @@ def at_switch(rng, panel):
     """The panel with its first or second lamella so thick that 2S comes nearest to its basic time t, or next to nearest."""
     lamella = rng.randrange(min(2, len(panel.lamellae)))
     before = sum(peer.layer_times(panel)[:len(panel.boards) + lamella])
-    basic_time = peer.wood_insulation if lamella == len(panel.lamellae) - 1 else peer.wood_protection
-    nearest = sorted(range(100, 601), key=lambda thickness: abs(2 * before - basic_time(thickness)))
+    table = "wood_insulation" if lamella == len(panel.lamellae) - 1 else "wood_protection"
+    nearest = sorted(range(100, 601), key=lambda thickness: abs(2 * before - peer.entry(table, thickness)))
     changed = with_lamella(panel, lamella, panel.lamellae[lamella][0], nearest[rng.randrange(2)])
     return changed._replace(moment=0)
 

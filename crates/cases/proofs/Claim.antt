@@ -11,12 +11,13 @@ use Rattle.charring.specs.Stages.{stretches, way, charred}
 use Rattle.charring.specs.Depths.{charAt, effectiveAt}
 use Rattle.load.specs.LoadMinute.{everyFrom, timeTest}
 use Rattle.load.specs.FailureTests.{failsRightAfter}
-use Rattle.basic_times.specs.Rules.{basicTime}
-use Rattle.layers.specs.Layers.{protection, insulation, jointOf, positioned, withProtection, withInsulation, sumAfter, eiSum}
+use Rattle.panel.specs.Boards.{materialOf}
+use Rattle.basic_times.specs.Rules.{largestTime}
+use Rattle.layers.specs.Layers.{timeOf, jointOf, positioned, withLayer, sumAfter, eiSum}
 use Rattle.cases.specs.Cases.{EveryRowHolds}
 use Rattle.cases.specs.Starred.{starred}
 use Rattle.cases.proofs.Tested.{agree, all-tested}
 
 pub starred-hold : EveryRowHolds starred
-unfolding starred agree largest lamellaeOf thickness countedFrom total lowest highest sectionOf carries some panelRefusal basicTime protection insulation jointOf positioned withProtection withInsulation sumAfter eiSum failureOf k2 clad firstEnd linesFrom bondLines lineEnd stretches way charred charAt effectiveAt everyFrom timeTest failsRightAfter
+unfolding starred agree largest lamellaeOf thickness countedFrom total lowest highest sectionOf carries some panelRefusal materialOf largestTime timeOf jointOf positioned withLayer sumAfter eiSum failureOf k2 clad firstEnd linesFrom bondLines lineEnd stretches way charred charAt effectiveAt everyFrom timeTest failsRightAfter
 starred-hold = all-tested starred tt

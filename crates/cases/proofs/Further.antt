@@ -3,6 +3,7 @@ use Rattle.numbers.specs.Largest.{largest}
 use Rattle.panel.specs.Lamellae.{lamellaeOf, thickness}
 use Rattle.section.specs.Sections.{countedFrom, total, lowest, highest, sectionOf}
 use Rattle.section.specs.Tests.{carries}
+use Rattle.panel.specs.Boards.{materialOf}
 use Rattle.limits.specs.Causes.{some}
 use Rattle.limits.specs.Refusals.{panelRefusal}
 use Rattle.charring.specs.Fires.{failureOf, k2, clad, firstEnd, linesFrom, bondLines, lineEnd}
@@ -15,5 +16,5 @@ use Rattle.cases.specs.Further.{further}
 use Rattle.cases.proofs.Tested.{phaseNumber, agree, all-tested}
 
 pub further-hold : EveryRowHolds further
-unfolding further agree phaseNumber largest lamellaeOf thickness countedFrom total lowest highest sectionOf carries some panelRefusal failureOf k2 clad firstEnd linesFrom bondLines lineEnd stretches way charred charAt effectiveAt phaseOn phaseAt everyFrom timeTest
+unfolding further agree phaseNumber largest lamellaeOf thickness countedFrom total lowest highest sectionOf carries some materialOf panelRefusal failureOf k2 clad firstEnd linesFrom bondLines lineEnd stretches way charred charAt effectiveAt phaseOn phaseAt everyFrom timeTest
 further-hold = all-tested further tt

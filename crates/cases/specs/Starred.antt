@@ -6,7 +6,9 @@ use Rattle.panel.specs.Worked.{g, gFalling, recovers, oneBehindA, threeBehindA,
 use Rattle.section.specs.Tests.{depthPasses}
 use Rattle.limits.specs.Refusals.{panelRefusal}
 use Rattle.charring.specs.Depths.{charAt}
-use Rattle.basic_times.specs.Rules.{gypsumProtection, gypsumInsulation, woodProtection, woodInsulation}
+use Rattle.panel.specs.declared.Material.the-variants.{Gypsum, Wood}
+use Rattle.basic_times.specs.declared.Role.the-variants.{Protection, Insulation}
+use Rattle.basic_times.specs.Rules.{basicTime}
 use Rattle.layers.specs.Layers.{eiSum}
 use Rattle.cases.specs.Cases.{Case, gives, bears, failureTime, passing, hundredths}
 
@@ -35,12 +37,12 @@ starred =
     ∷ gives (passing (depthPasses recovers 70)) 0
     ∷ gives (passing (depthPasses recovers 71)) 1
     -- "Gypsum 15.0: 3000, 2400; wood 20.0: 3000, 1900; wood 40.0: 6430, 5014."
-    ∷ gives (gypsumProtection 150) 3000
-    ∷ gives (gypsumInsulation 150) 2400
-    ∷ gives (woodProtection 200) 3000
-    ∷ gives (woodInsulation 200) 1900
-    ∷ gives (woodProtection 400) 6430
-    ∷ gives (woodInsulation 400) 5014
+    ∷ gives (basicTime Protection Gypsum 150) 3000
+    ∷ gives (basicTime Insulation Gypsum 150) 2400
+    ∷ gives (basicTime Protection Wood 200) 3000
+    ∷ gives (basicTime Insulation Wood 200) 1900
+    ∷ gives (basicTime Protection Wood 400) 6430
+    ∷ gives (basicTime Insulation Wood 400) 5014
     -- "G: EI sum 9506."
     ∷ gives (eiSum (g 3000)) 9506
     -- "Type A 12.5, coefficient 100, three lamellae 20: 5933."

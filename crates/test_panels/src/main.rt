@@ -225,6 +225,16 @@ fn print_boards() {
     );
 }
 
+fn print_wood_boards() {
+    print_panel(one(b'O', 200, 100, 0), b"O 20.0");
+    print_panel(one(b'P', 401, 100, 0), b"P 40.1");
+    print_panel(one(b'O', 65535, 100, 0), b"O of 65,535");
+    print_panel(one(b'P', 400, 100, 44444), b"P 40.0, t_ch given");
+    print_panel(two(b'O', b'A', 0), b"O over A");
+    print_panel(two(b'A', b'O', 0), b"O under A");
+    print_panel(two(b'P', b'P', 0), b"P over P");
+}
+
 fn print_lamellae() {
     let full_along = [1u8; 9];
     let g_along = [1u8, 0, 1, 0, 0, 0, 0, 0, 0];
@@ -301,11 +311,16 @@ fn print_starts() {
         Cladding::One(board(b'H', 90, 100)),
         b"t_ch of H 9.0, wide gap",
     );
+    let o = board(b'O', 200, 100);
+    print_start(0, Cladding::One(o), b"t_ch of O 20.0");
+    print_start(1, Cladding::One(o), b"t_ch of O 20.0, wide gap");
+    print_start(0, Cladding::One(board(b'P', 400, 100)), b"t_ch of P 40.0");
 }
 
 fn main() {
     print_loads();
     print_boards();
+    print_wood_boards();
     print_lamellae();
     print_unused();
     print_greatest();

@@ -1,6 +1,10 @@
 // `time KIND H TEXT`: the basic time at a thickness in tenths of mm. KIND is `bp` or `bi` for protection or insulation by gypsum, as a board,
-// `lp` or `li` by solid wood, as a lamella. Prints the time in hundredths of a minute, or the refusal, and the text.
+// `lp` or `li` by solid wood, as a lamella, `op` or `oi` by OSB, `pp` or `pi` by particle board. Prints the time in hundredths of a minute,
+// or the refusal, and the text.
+use basic_times::Role;
 use basic_times::TimeAnswer;
+use basic_times::calls::basic_time;
+use panel::Material;
 use test_lines::input::after_word;
 use test_lines::input::first_word;
 use test_lines::input::is_word;
@@ -14,16 +18,25 @@ fn print_answer(answer: TimeAnswer) {
     }
 }
 
+// Prints the time if the line begins with one of the two words; says whether it does.
+fn prints(line: &[u8], protection: &[u8], insulation: &[u8], m: Material, h: u16) -> bool {
+    if is_word(line, protection) {
+        print_answer(basic_time(Role::Protection, m, h));
+        return true;
+    }
+    if is_word(line, insulation) {
+        print_answer(basic_time(Role::Insulation, m, h));
+        return true;
+    }
+    false
+}
+
 fn print_time(line: &[u8], h: u16) {
-    if is_word(line, b"bp") {
-        print_answer(basic_times::calls::gypsum_protection(h));
-    } else if is_word(line, b"bi") {
-        print_answer(basic_times::calls::gypsum_insulation(h));
-    } else if is_word(line, b"lp") {
-        print_answer(basic_times::calls::wood_protection(h));
-    } else if is_word(line, b"li") {
-        print_answer(basic_times::calls::wood_insulation(h));
-    } else {
+    let gypsum = prints(line, b"bp", b"bi", Material::Gypsum, h);
+    let wood = prints(line, b"lp", b"li", Material::Wood, h);
+    let osb = prints(line, b"op", b"oi", Material::Osb, h);
+    let particle_board = prints(line, b"pp", b"pi", Material::ParticleBoard, h);
+    if !(gypsum | wood | osb | particle_board) {
         output::text(b"unknown");
     }
 }
