@@ -85,17 +85,26 @@ static uint32_t number(const uint8_t *b, size_t width)
 
 static bool is_f(const Panel *p) { return p->boards > 0 && p->board[0].kind == 'F'; }
 
+static bool wood_based(Board b) { return b.kind == 'O' || b.kind == 'P'; }
+
 static uint32_t charring_start(const Panel *p)
 {
     if (p->boards == 0)
         return 0;
+    if (p->boards == 1 && wood_based(p->board[0]))
+        return 1000 * (uint32_t)p->board[0].thickness / 9;
     uint32_t gain = 280 * p->board[0].thickness, loss = p->gap == 1 ? 23000 : 14000;
     if (p->boards == 2)
         gain += (p->board[1].kind == 'F' ? 224 : 140) * p->board[1].thickness;
     return gain < loss ? 0 : gain - loss;
 }
 
-static bool known(uint8_t kind) { return kind == 'A' || kind == 'F' || kind == 'H'; }
+static bool known(Board b) { return b.kind == 'A' || b.kind == 'F' || b.kind == 'H' || wood_based(b); }
+
+static bool bad_thickness(Board b)
+{
+    return wood_based(b) ? b.thickness < 200 || 400 < b.thickness : b.thickness < 90 || 250 < b.thickness;
+}
 
 /* The refusal's number, or 0 and the panel. */
 static int read_record(const uint8_t *b, size_t length, Panel *p)
@@ -123,10 +132,10 @@ static int read_record(const uint8_t *b, size_t length, Panel *p)
     for (size_t i = 0; i < p->boards; i++, at += 4)
         p->board[i] = (Board){at[0], (uint16_t)number(at + 1, 2), at[3]};
     for (size_t i = 0; i < p->boards; i++)
-        if (!known(p->board[i].kind) || (p->board[i].kind == 'F') != (p->board[0].kind == 'F'))
+        if (!known(p->board[i]) || (p->board[i].kind == 'F') != (p->board[0].kind == 'F') || (p->boards == 2 && wood_based(p->board[i])))
             return 7;
     for (size_t i = 0; i < p->boards; i++)
-        if (p->board[i].thickness < 90 || 250 < p->board[i].thickness || p->board[i].joint < 1 || 100 < p->board[i].joint)
+        if (bad_thickness(p->board[i]) || p->board[i].joint < 1 || 100 < p->board[i].joint)
             return 8;
     if (is_f(p) ? p->failure_time < charring_start(p) || 360000 < p->failure_time : p->failure_time != 0)
         return 9;
@@ -254,11 +263,20 @@ static uint64_t layer_time(uint64_t s, uint64_t t, uint64_t joint)
     return (2 * s <= t ? (5 * t - 3 * s) / 5 : late_time(s, t)) * joint / 100;
 }
 
+static uint64_t board_time(Board b)
+{
+    if (b.kind == 'O')
+        return OSB_PROTECTION[b.thickness - 200];
+    if (b.kind == 'P')
+        return PARTICLE_BOARD_PROTECTION[b.thickness - 200];
+    return GYPSUM_PROTECTION[b.thickness - 90];
+}
+
 static uint32_t ei_minute(const Panel *p)
 {
     uint64_t s = 0;
     for (size_t i = 0; i < p->boards; i++)
-        s += layer_time(s, GYPSUM_PROTECTION[p->board[i].thickness - 90], p->board[i].joint);
+        s += layer_time(s, board_time(p->board[i]), p->board[i].joint);
     for (size_t i = 0; i + 1 < p->count; i++)
         s += layer_time(s, WOOD_PROTECTION[p->thicknesses[i] - 100], 100);
     s += layer_time(s, WOOD_INSULATION[p->thicknesses[p->count - 1] - 100], 100);

@@ -23,7 +23,7 @@ def write_tables(path):
     """The basic times that a card needs, by their rules."""
     with open(path, "w") as file:
         file.write("#include <stdint.h>\n")
-        for table in ("gypsum_protection", "wood_protection", "wood_insulation"):
+        for table in ("gypsum_protection", "osb_protection", "particle_board_protection", "wood_protection", "wood_insulation"):
             file.write(f"static const uint16_t {table.upper()}[] = {{{', '.join(map(str, peer.entries(table)))}}};\n")
 
 

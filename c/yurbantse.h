@@ -1,6 +1,7 @@
 /* The fire card for programs in C: the two functions of the proved crate card_c (target/staticlib/libcard_c.a, x86-64 Linux).
 
-   A record is that of docs/SPECIFICATION.md, part 2: big-endian, 21 to 53 bytes. Lengths in it are in tenths of mm, the rate in hundredths
+   A record is that of docs/SPECIFICATION.md, part 2: big-endian, 21 to 53 bytes. Boards are of type A, F or H (gypsum), two at most, or one
+   of type O (OSB) or P (particle board). Lengths in it are in tenths of mm, the rate in hundredths
    of mm/min, the strength in tenths of N/mm2, the moment in N·m per metre of width, the failure time in thousandths of a minute.
 
    Any bytes may be given, and any space lent; both functions always return. The caller must see to what C cannot say:

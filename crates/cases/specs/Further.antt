@@ -1,4 +1,5 @@
--- Charring worked through further, by hand from document 01's "Charring": what its starred lines leave out, with the phases.
+-- Cases worked through further, by hand: of document 01's "Charring" what its starred lines leave out, with the phases; and of document
+-- 02 panels behind wood-based boards.
 use Prim.Native.Nat.{ℕ}
 use mathlib.Core.List.{List, [], _∷_}
 use Rattle.panel.specs.declared.Cladding.{Cladding}
@@ -9,8 +10,14 @@ use Rattle.panel.specs.Lamellae.{lamella}
 use Rattle.panel.specs.Worked.{panelWith, gLamellae, boardOf, board125}
 use Rattle.limits.specs.Refusals.{panelRefusal}
 use Rattle.charring.specs.declared.Phase.the-variants.{Fast, Settled}
+use Rattle.panel.specs.declared.Material.the-variants.{Osb, ParticleBoard}
+use Rattle.record.specs.Layouts.{panelOf}
+use Rattle.record.specs.Refusals.{recordRefusal}
 use Rattle.charring.specs.Depths.{charAt}
-use Rattle.cases.specs.Cases.{Case, gives, bears, inPhase, hundredths, hundredThousandths}
+use Rattle.basic_times.specs.declared.Role.the-variants.{Protection, Insulation}
+use Rattle.basic_times.specs.Rules.{basicTime}
+use Rattle.layers.specs.Layers.{eiSum}
+use Rattle.cases.specs.Cases.{Case, gives, bears, failureTime, inPhase, hundredths, hundredThousandths}
 
 -- Panels
 
@@ -39,6 +46,21 @@ twoF = one 0 80000 (Two (board125 70) (board125 70))
 -- A 9.0 over a wide gap
 abbrev pub wideA : Panel
 wideA = one 1 0 (One (boardOf 65 90))
+
+-- the record of G with M 3,000 behind one wood-based board of coefficient 100: length 31, version 1, bond 0, rate 65, the gap, f 240,
+-- M 3,000, one board, time 0, the board's type and thickness, three lamellae
+abbrev pub gBehind : ℕ → ℕ → ℕ → ℕ → List ℕ
+gBehind gap kind high low =
+    0 ∷ 31 ∷ 1 ∷ 0 ∷ 65 ∷ gap ∷ 0 ∷ 240 ∷ 0 ∷ 0 ∷ 11 ∷ 184 ∷ 1 ∷ 0 ∷ 0 ∷ 0 ∷ 0 ∷ kind ∷ high ∷ low ∷ 100 ∷ 3
+    ∷ 1 ∷ 1 ∷ 44 ∷ 0 ∷ 1 ∷ 144 ∷ 1 ∷ 1 ∷ 44 ∷ []
+
+-- behind type O, 20.0 mm, with a wide gap
+abbrev pub behindO : List ℕ
+behindO = gBehind 1 79 0 200
+
+-- behind type P, 40.0 mm
+abbrev pub behindP : List ℕ
+behindP = gBehind 0 80 1 144
 
 -- Rows
 
@@ -74,4 +96,29 @@ further =
     ∷ inPhase wideA 3 1 (Fast 286000)
     ∷ gives (charAt wideA 44 10) (hundredths 286 10)
     ∷ gives (charAt wideA 10 1) (hundredths 650 1)
+    -- wood-based boards at 20.0 mm have the bases of their rules, at 40.0 mm 2^1.1 and 2^1.4 times as much
+    ∷ gives (basicTime Protection Osb 200) 2300
+    ∷ gives (basicTime Insulation Osb 200) 1600
+    ∷ gives (basicTime Protection ParticleBoard 200) 3300
+    ∷ gives (basicTime Insulation ParticleBoard 200) 2200
+    ∷ gives (basicTime Protection Osb 400) 4930
+    ∷ gives (basicTime Insulation Osb 400) 4222
+    ∷ gives (basicTime Protection ParticleBoard 400) 7073
+    ∷ gives (basicTime Insulation ParticleBoard 400) 5805
+    -- O 20.0: t_ch = t_f = 20/0.90 = 22.222 min, whatever the gap; 2β up to 25 mm, 25/1.3 min later
+    ∷ gives (recordRefusal behindO) 0
+    ∷ gives (charringStart 1 (panelOf behindO .cladding)) 22222
+    ∷ inPhase (panelOf behindO) 23 1 (Fast 2500000)
+    ∷ gives (charAt (panelOf behindO) 269443 6500) (hundredths 2500 6500)
+    ∷ inPhase (panelOf behindO) 269443 6500 Settled
+    -- like G it fails as 74.4 mm no longer carry, that is at 67.4 mm of char, 42.4/0.65 min later
+    ∷ bears (panelOf behindO) 106
+    ∷ failureTime (panelOf behindO) 693443 6500
+    ∷ gives (eiSum (panelOf behindO)) 10068
+    -- P 40.0: t_ch = t_f = 44.444 min, k0 full then; 25 mm at 63.675 min; fails at 67.4 mm of char
+    ∷ gives (recordRefusal behindP) 0
+    ∷ gives (charringStart 0 (panelOf behindP .cladding)) 44444
+    ∷ bears (panelOf behindP) 128
+    ∷ failureTime (panelOf behindP) 418943 3250
+    ∷ gives (eiSum (panelOf behindP)) 12596
     ∷ []
