@@ -1,5 +1,4 @@
--- Document 01, "Layer times": the basic times, in hundredths of a minute, rounded down; thicknesses in tenths of mm. Document 02 adds
--- OSB and particle board.
+-- Document 01, "Layer times", and document 02, 1/14: the basic times, in hundredths of a minute, rounded down; thicknesses in tenths of mm.
 use Prim.Native.Nat.{ℕ, _*_, _^_}
 use mathlib.Core.Bool.{Bool}
 use lib.Dec.{leb}

@@ -1,7 +1,7 @@
 -- Laws of materials: boards of no wood-based type are gypsum, and no layer is thinner than 9.0 mm or thicker than 60.0.
-use Prim.Native.Nat.{ℕ, _≤_}
-use mathlib.Core.Path.{_≡_, refl}
-use mathlib.Core.Bool.{Bool, true, false, _||_}
+use Prim.Native.Nat.{_≤_}
+use mathlib.Core.Path.{_≡_}
+use mathlib.Core.Bool.{false, _||_}
 use native.Mathlib.Omega.{arith}
 use lib.Dec.{eqb}
 use Rattle.numbers.proofs.Booleans.{or-none}

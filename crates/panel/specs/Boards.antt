@@ -1,4 +1,4 @@
--- Document 01, "The panel record" and "Charring": the boards, and when charring starts behind them. Document 02 adds types O and P.
+-- Document 01, "The panel record" and "Charring", and document 02, 1/14: the boards, and when charring starts behind them.
 use Prim.Native.Nat.{ℕ, _+_, _-_, _*_, _/_}
 use mathlib.Core.List.{List, [], _∷_}
 use mathlib.Core.Bool.{Bool, true, false, _||_}
@@ -32,7 +32,7 @@ letterO = 79
 abbrev pub letterP : ℕ
 letterP = 80
 
--- wood-based boards
+-- boards of OSB or particle board, which are wood-based
 abbrev pub woodBased : Board → Bool
 woodBased b = eqb (b .kind) letterO || eqb (b .kind) letterP
 

@@ -1,4 +1,4 @@
--- What a layer is made of: the thicknesses that documents 01 and 02 allow, in tenths of mm.
+-- What a layer is made of, and the thicknesses that it may have, in tenths of mm.
 use Prim.Native.Nat.{ℕ}
 use mathlib.Core.Bool.{Bool}
 use Rattle.numbers.specs.Choice.{outside}

@@ -1,6 +1,5 @@
 -- `basic_times::times::time_at` meets its contract: the place in a table is counted from the thinnest layer. Assumes nothing.
-use Prim.Native.Nat.{ℕ, _+_}
-use Rattle.panel.specs.Materials.{thinnest}
+use Prim.Native.Nat.{_+_}
 use Rattle.basic_times.specs.declared.Role.{Role}
 use Rattle.basic_times.specs.declared.Role.the-variants.{Protection, Insulation}
 use Rattle.basic_times.specs.Rules.{basicTime}
