@@ -1,8 +1,8 @@
 /* The fire card for programs in C: the two functions of the proved crate card_c (target/staticlib/libcard_c.a, x86-64 Linux).
 
-   A record is that of docs/SPECIFICATION.md, part 2: big-endian, 21 to 53 bytes. Boards are of type A, F or H (gypsum), two at most, or one
-   of type O (OSB) or P (particle board). Lengths in it are in tenths of mm, the rate in hundredths
-   of mm/min, the strength in tenths of N/mm2, the moment in N·m per metre of width, the failure time in thousandths of a minute.
+   A record is that of docs/SPECIFICATION.md, part 2: big-endian, 21 to 53 bytes. Lengths in it are in tenths of mm, the rate in hundredths
+   of mm/min, the strength in tenths of N/mm2, the moment in N·m per metre of width, the failure time in thousandths of a minute. There is
+   no board, one or two of gypsum (types A, F and H), or one of OSB (O) or particle board (P).
 
    Any bytes may be given, and any space lent; both functions always return. The caller must see to what C cannot say:
    - both pointers point to as many bytes as are named, and are not null, even where that is none;

@@ -105,6 +105,15 @@ further =
     ∷ gives (basicTime Insulation Osb 400) 4222
     ∷ gives (basicTime Protection ParticleBoard 400) 7073
     ∷ gives (basicTime Insulation ParticleBoard 400) 5805
+    -- they are accepted alone, from 20.0 to 40.0 mm and with no time given
+    ∷ gives (panelRefusal (one 0 0 (One (boardOf 79 199)))) 8
+    ∷ gives (panelRefusal (one 0 0 (One (boardOf 79 200)))) 0
+    ∷ gives (panelRefusal (one 0 0 (One (boardOf 80 400)))) 0
+    ∷ gives (panelRefusal (one 0 0 (One (boardOf 80 401)))) 8
+    ∷ gives (panelRefusal (one 0 1 (One (boardOf 80 300)))) 9
+    ∷ gives (panelRefusal (one 0 0 (Two (boardOf 79 200) (boardOf 65 200)))) 7
+    ∷ gives (panelRefusal (one 0 0 (Two (boardOf 65 200) (boardOf 79 200)))) 7
+    ∷ gives (panelRefusal (one 0 0 (Two (boardOf 80 200) (boardOf 80 200)))) 7
     -- O 20.0: t_ch = t_f = 20/0.90 = 22.222 min, whatever the gap; 2β up to 25 mm, 25/1.3 min later
     ∷ gives (recordRefusal behindO) 0
     ∷ gives (charringStart 1 (panelOf behindO .cladding)) 22222
