@@ -10,18 +10,15 @@ use Rattle.layers.proofs.step.late_keeps.Tie as tie
 
 mul-result-2 : tie.Need-mul-result-2
 mul-result-2 c =
-    let n : c .args .n ≤ (longestTime + 1) = search needs in
+    let n : c .args .n ≤ longestTime + 1 = search needs in
     omega (arith, times (4 * c .args .n) (4 * (longestTime + 1)) (c .args .n) (longestTime + 1) (omega arith) n)
 
 mul-result-3 : tie.Need-mul-result-3
 mul-result-3 c =
-    let n : c .args .n ≤ (longestTime + 1) = search needs in
+    let n : c .args .n ≤ longestTime + 1 = search needs in
     let s : c .args .s ≤ longestSum = search needs in
-    omega (
-      arith,
-      times (4 * c .args .n * c .args .n) ((4 * (longestTime + 1)) * (longestTime + 1)) (c .args .s) longestSum
-          (times (4 * c .args .n) (4 * (longestTime + 1)) (c .args .n) (longestTime + 1) (omega arith) n) s,
-    )
+    let square = times (4 * c .args .n) (4 * (longestTime + 1)) (c .args .n) (longestTime + 1) (omega arith) n in
+    omega (arith, times (4 * c .args .n * c .args .n) (4 * (longestTime + 1) * (longestTime + 1)) (c .args .s) longestSum square s)
 
 mul-result-4 : tie.Need-mul-result-4
 mul-result-4 c =
@@ -31,7 +28,8 @@ mul-result-4 c =
 mul-result-5 : tie.Need-mul-result-5
 mul-result-5 c =
     let t : c .args .t ≤ longestTime = search needs in
-    omega (arith, times (c .args .t * c .args .t) (longestTime * longestTime) (c .args .t) longestTime (times (c .args .t) longestTime (c .args .t) longestTime t t) t)
+    let square = times (c .args .t) longestTime (c .args .t) longestTime t t in
+    omega (arith, times (c .args .t * c .args .t) (longestTime * longestTime) (c .args .t) longestTime square t)
 
 pub late-keeps-spec : {M : Type 1} → statement M
 late-keeps-spec =
