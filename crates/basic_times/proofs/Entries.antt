@@ -75,8 +75,3 @@ entry role m vs t place within =
     sym
     (largest-is test longestTime v (right-largest r h v here)
     (leb→le v longestTime (T-right (test v && not (test (suc v))) (leb v longestTime) here)))
-
--- in an arm of a match, where the material is told
-pub told-place :
-    (place : ℕ) {m : Material} (k : Material) → m ≡ k → thinnest m + place ≤ thickest m → thinnest k + place ≤ thickest k
-told-place place k e = subst (λ (i : Material). thinnest i + place ≤ thickest i) e
