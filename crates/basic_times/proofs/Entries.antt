@@ -59,11 +59,11 @@ abbrev pub isTable : Role → Material → List ℕ → Bool
 isTable role m vs = leb (suc (thickest m)) (thinnest m + length vs) && allRight (right (ruleOf role m)) (thinnest m) vs
 
 -- THE RULE: each entry of a table that passes the test is the basic time at its thickness
-pub entry :
+pub table-entry :
     (role : Role) (m : Material) (vs : List ℕ) → T (isTable role m vs) → (place : ℕ) → thinnest m + place ≤ thickest m
     → getD vs place 0 ≡ basicTime role m (thinnest m + place)
 unfolding largestTime
-entry role m vs t place within =
+table-entry role m vs t place within =
     let r = ruleOf role m in
     let h = thinnest m + place in
     let v = getD vs place 0 in

@@ -1,4 +1,4 @@
-// The basic time of a layer, from the table of its material: each table is indexed from the thinnest layer on.
+// The basic time of a layer, from the table of its role and material: each table is indexed from the thinnest layer on.
 use crate::Role;
 use panel::Material;
 use panel::materials::thinnest;
@@ -8,27 +8,23 @@ ghost use Rattle.panel.specs.Materials.{thinnest, thickest};
 ghost use Rattle.limits.specs.Keeps.{ThicknessKeeps};
 ghost use Rattle.basic_times.specs.Rules.{longestTime, basicTime};
 
-fn protection_entry(m: Material, place: usize) -> u32
+fn entry(role: Role, m: Material, place: usize) -> u32
     requires { ⌜ thinnest m + place ≤ thickest m ⌝ }
-    ensures { λ r. ⌜ r ≡ basicTime Role.Protection m (thinnest m + place) ⌝ }
+    ensures { λ r. ⌜ r ≡ basicTime role m (thinnest m + place) ⌝ }
 {
-    match m {
-        Material::Gypsum => crate::gypsum_protection::TABLE[place],
-        Material::Wood => crate::wood_protection::TABLE[place],
-        Material::Osb => crate::osb_protection::TABLE[place],
-        Material::ParticleBoard => crate::particle_board_protection::TABLE[place],
-    }
-}
-
-fn insulation_entry(m: Material, place: usize) -> u32
-    requires { ⌜ thinnest m + place ≤ thickest m ⌝ }
-    ensures { λ r. ⌜ r ≡ basicTime Role.Insulation m (thinnest m + place) ⌝ }
-{
-    match m {
-        Material::Gypsum => crate::gypsum_insulation::TABLE[place],
-        Material::Wood => crate::wood_insulation::TABLE[place],
-        Material::Osb => crate::osb_insulation::TABLE[place],
-        Material::ParticleBoard => crate::particle_board_insulation::TABLE[place],
+    match role {
+        Role::Protection => match m {
+            Material::Gypsum => crate::gypsum_protection::TABLE[place],
+            Material::Wood => crate::wood_protection::TABLE[place],
+            Material::Osb => crate::osb_protection::TABLE[place],
+            Material::ParticleBoard => crate::particle_board_protection::TABLE[place],
+        },
+        Role::Insulation => match m {
+            Material::Gypsum => crate::gypsum_insulation::TABLE[place],
+            Material::Wood => crate::wood_insulation::TABLE[place],
+            Material::Osb => crate::osb_insulation::TABLE[place],
+            Material::ParticleBoard => crate::particle_board_insulation::TABLE[place],
+        },
     }
 }
 
@@ -37,9 +33,5 @@ pub fn time_at(role: Role, m: Material, h: u16) -> u32
     requires { ⌜ ThicknessKeeps m h ⌝ }
     ensures { λ r. ⌜ (r ≡ basicTime role m h) × (r ≤ longestTime) ⌝ }
 {
-    let place = (h - thinnest(m)) as usize;
-    match role {
-        Role::Protection => protection_entry(m, place),
-        Role::Insulation => insulation_entry(m, place),
-    }
+    entry(role, m, (h - thinnest(m)) as usize)
 }
