@@ -4,6 +4,7 @@ use panel::Board;
 use panel::Cladding;
 use panel::Material;
 use panel::Panel;
+use panel::WHOLE_JOINT;
 use panel::boards::charring_start;
 use panel::boards::is_f;
 use panel::boards::is_known;
@@ -63,7 +64,7 @@ pub(crate) fn bad_types(c: Cladding) -> bool
 fn bad_board(b: Board) -> bool
     ensures { λ r. ⌜ r ≡ badBoard b ⌝ }
 {
-    bad_thickness(material_of(b.kind), b.thickness) | ((b.joint < 1) | (100 < b.joint))
+    bad_thickness(material_of(b.kind), b.thickness) | ((b.joint < 1) | (WHOLE_JOINT < b.joint))
 }
 
 pub(crate) fn bad_boards(c: Cladding) -> bool
