@@ -5,9 +5,13 @@ use mathlib.Core.List.{List, [], _∷_}
 use mathlib.Core.Bool.{Bool, true, not, _&&_}
 use native.Mathlib.Omega.{arith}
 use native.Mathlib.Nat.{add-zero, add-suc, suc-add, mul-le-mul-right, pow-le-pow-left, le-trans}
+use borrow.Author.Needs.{needs}
 use borrow.Author.Tests.{leb-true, le-leb, not-true}
 use lib.ListN.{length, getD}
-use lib.Dec.{T, leb, leb→le}
+use mir.Syntax.{w64}
+use mir.Facts.{fits-le}
+use mir.Val.{Fits}
+use lib.Dec.{T, leb, ltb, leb→le, ltb→lt}
 use Rattle.numbers.proofs.Booleans.{T-left, T-right, T-true}
 use Rattle.numbers.specs.Largest.{IsLargest}
 use Rattle.numbers.proofs.LargestKept.{largest-is, largest-by-next}
@@ -75,3 +79,28 @@ table-entry role m vs t place within =
     sym
     (largest-is test longestTime v (right-largest r h v here)
     (leb→le v longestTime (T-right (test v && not (test (suc v))) (leb v longestTime) here)))
+
+-- What the checker asks of a place in a table, where a function has found out the role and the material: `search` takes these from what it
+-- is handed, and so answers for any table, `search told`
+
+-- the place lies in a table that has an entry for each thickness of the material
+pub told-place :
+    {m k : Material} {place n : ℕ} → m ≡ k → thinnest m + place ≤ thickest m → T (ltb (thickest k) (thinnest k + n)) → place < n
+told-place {m} {k} {place} {n} e within long =
+    let here : thinnest k + place ≤ thickest k = rw e at within in
+    omega (arith, ltb→lt (thickest k) (thinnest k + n) long)
+
+-- counted in bytes it fits a word
+pub told-bytes :
+    {m k : Material} (place width : ℕ) → m ≡ k → thinnest m + place ≤ thickest m → Fits w64 (thickest k * width) → Fits w64 (place * width)
+told-bytes {m} {k} place width e within fits =
+    let here : thinnest k + place ≤ thickest k = rw e at within in
+    fits-le (mul-le-mul-right width (omega arith)) fits
+
+-- the entry there is the basic time
+pub told-entry :
+    {role r : Role} {m k : Material} (vs : List ℕ) (place : ℕ) → role ≡ r → m ≡ k → T (isTable r k vs) → thinnest m + place ≤ thickest m
+    → getD vs place 0 ≡ basicTime role m (thinnest m + place)
+told-entry {role} {r} {m} {k} vs place e f right within = table-entry role m vs (rw (e, f) right) place within
+
+pub ruleset told = (needs, told-place, told-bytes, told-entry)

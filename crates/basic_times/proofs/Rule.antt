@@ -11,8 +11,8 @@ use Rattle.numbers.proofs.Booleans.{T-false, T-left, T-right}
 use Rattle.numbers.specs.Largest.{IsLargest}
 use Rattle.numbers.proofs.LargestKept.{largest-found, largest-within}
 use Rattle.panel.specs.declared.Material.{Material}
-use Rattle.panel.specs.declared.Material.the-variants.{Gypsum, Wood, Osb, ParticleBoard}
 use Rattle.panel.specs.Materials.{thickest}
+use Rattle.panel.proofs.Thicknesses.{every-material}
 use Rattle.basic_times.specs.declared.Role.{Role}
 use Rattle.basic_times.specs.declared.Role.the-variants.{Protection, Insulation}
 use Rattle.basic_times.specs.Rules.{longestTime, Rule, keeps, largestTime, ruleOf, basicTime}
@@ -51,14 +51,8 @@ rule-largest r top t h l =
 -- Every table
 
 all-bounded : (role : Role) (m : Material) → T (bounded (ruleOf role m) (thickest m))
-all-bounded Protection Gypsum = tt
-all-bounded Insulation Gypsum = tt
-all-bounded Protection Wood = tt
-all-bounded Insulation Wood = tt
-all-bounded Protection Osb = tt
-all-bounded Insulation Osb = tt
-all-bounded Protection ParticleBoard = tt
-all-bounded Insulation ParticleBoard = tt
+all-bounded Protection m = every-material (λ k. bounded (ruleOf Protection k) (thickest k)) tt m
+all-bounded Insulation m = every-material (λ k. bounded (ruleOf Insulation k) (thickest k)) tt m
 
 pub basic-largest :
     (role : Role) (m : Material) (h : ℕ) → h ≤ thickest m → IsLargest (keeps (ruleOf role m) h) (basicTime role m h)

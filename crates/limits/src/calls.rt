@@ -6,7 +6,7 @@ use crate::builds::is_same_build;
 use crate::table::table_refusal;
 use panel::Panel;
 use panel::timber::factor_of;
-use section::test::section_at;
+use section::sums::section_at;
 use section::test::section_passes;
 ghost use mathlib.Core.Path.{_≡_};
 ghost use Rattle.limits.specs.Refusals.{panelRefusal};

@@ -1,6 +1,6 @@
 // The remaining section of a panel at a depth (document 01, "Remaining section"): the counted parts, N, P, Q, lo and hi of
 // them, and whether the depth passes. It works on panels that keep the limits; the crate `limits` checks them.
-mod sums;
+pub mod sums;
 pub mod test;
 
 // N, P and Q of the counted parts (tenths of mm and their powers), and their outermost ends; all 0 where nothing is counted.

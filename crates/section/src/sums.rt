@@ -2,14 +2,15 @@
 use crate::Section;
 use numbers::words64::greater;
 use numbers::words64::widen;
+use panel::Panel;
 ghost use mathlib.Core.Path.{_≡_};
 ghost use Prim.Native.Nat.{_+_, _-_, _*_, _≤_, _<_};
 ghost use lib.Dec.{eqb, leb};
 ghost use Rattle.numbers.specs.Choice.{pick};
-ghost use Rattle.panel.specs.Lamellae.{lamella, lamellaeOf, thickness};
-ghost use Rattle.section.specs.Sections.{leastRemainder, counted, sectionOf};
+ghost use Rattle.panel.specs.Lamellae.{lamella};
+ghost use Rattle.section.specs.Sections.{leastRemainder};
 ghost use Rattle.section.specs.Steps.{withPart, withLamella};
-ghost use Rattle.section.specs.Tests.{SectionBounds};
+ghost use Rattle.section.specs.Tests.{sectionAt, SectionFits, SectionBounds};
 
 // b² − a².
 fn squares(a: u64, b: u64) -> u64
@@ -85,16 +86,10 @@ fn with_lamella(s: Section, depth: u64, top: u64, direction: u8, thick: u16) -> 
     }
 }
 
-// No open call: the limits of lines 10 and 11 must hold.
-pub(crate) fn section_of(
-    directions: [u8; 9],
-    thicknesses: [u16; 9],
-    count: usize,
-    depth: u32,
-) -> Section
-    requires { ⌜ count ≤ 9 ⌝ }
-    requires { ⌜ thickness (lamellaeOf directions thicknesses count) ≤ 4000 ⌝ }
-    ensures { λ r. ⌜ r ≡ sectionOf (counted depth (lamellaeOf directions thicknesses count)) ⌝ }
+// No open call: the panel must keep the limits of lines 5, 10 and 11.
+pub fn section_at(p: Panel, depth: u32) -> Section
+    requires { ⌜ SectionFits p ⌝ }
+    ensures { λ r. ⌜ r ≡ sectionAt p depth ⌝ }
 {
     let mut s = Section {
         n: 0,
@@ -105,9 +100,9 @@ pub(crate) fn section_of(
     };
     let mut top: u64 = 0;
     let mut i = 0;
-    while i < count {
-        let thick = thicknesses[i];
-        s = with_lamella(s, depth as u64, top, directions[i], thick);
+    while i < p.count {
+        let thick = p.thicknesses[i];
+        s = with_lamella(s, depth as u64, top, p.directions[i], thick);
         top += widen(thick);
         i += 1;
     }

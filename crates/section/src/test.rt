@@ -1,6 +1,6 @@
 // Whether a depth passes.
 use crate::Section;
-use crate::sums::section_of;
+use crate::sums::section_at;
 use numbers::words64::greater;
 use numbers::words64::less;
 use panel::Panel;
@@ -8,17 +8,7 @@ use panel::timber::factor_of;
 ghost use mathlib.Core.Path.{_≡_};
 ghost use Prim.Native.Nat.{_-_, _*_, _≤_, max};
 ghost use lib.Dec.{leb};
-ghost use Rattle.section.specs.Tests.{carries, depthPasses, sectionAt, SectionFits, SectionBounds};
-
-// No open call: the panel must keep the limits of lines 5, 10 and 11.
-pub fn section_at(p: Panel, depth: u32) -> Section
-    requires { ⌜ SectionFits p ⌝ }
-    ensures { λ r. ⌜ r ≡ sectionAt p depth ⌝ }
-{
-    let directions = p.directions;
-    let thicknesses = p.thicknesses;
-    section_of(directions, thicknesses, p.count, depth)
-}
+ghost use Rattle.section.specs.Tests.{carries, depthPasses, SectionFits, SectionBounds};
 
 // 2N times the distance of the outermost fibre from the centroid.
 fn edge_of(n: u64, p: u64, lo: u64, hi: u64) -> u64

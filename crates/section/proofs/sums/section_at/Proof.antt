@@ -1,47 +1,45 @@
--- `section::sums::section_of` meets its contract. The loop's invariant: s and top are the sums of the first i lamellae and where
+-- `section::sums::section_at` meets its contract. The loop's invariant: s and top are the sums of the first i lamellae and where
 -- these end. The measure is the lamellae left. Assumes nothing.
 use Prim.Native.Nat.{_≤_, _-_}
 use mathlib.Core.Path.{_≡_}
 use native.Mathlib.Omega.{arith}
 use borrow.Author.Needs.{needs}
 use Rattle.section.proofs.Growing.{Summed, summed-start, summed-more, summed-fits}
-use Rattle.section.proofs.sums.section_of.Statement.{statement}
-use Rattle.section.proofs.sums.section_of.Tie as tie
+use Rattle.section.proofs.sums.section_at.Statement.{statement}
+use Rattle.section.proofs.sums.section_at.Tie as tie
 
 abbrev Inv-loop : tie.InvT-loop
-Inv-loop count depth directions thicknesses s₀ top₀ i₀ s top i =
-    (i ≤ count) × Summed directions thicknesses depth i s top
+Inv-loop depth p s₀ top₀ i₀ s top i = (i ≤ p .count) × Summed (p .directions) (p .thicknesses) depth i s top
 
 abbrev μ-loop : tie.MeasureT-loop
-μ-loop count depth directions thicknesses s₀ top₀ i₀ s top i = count - i
+μ-loop depth p s₀ top₀ i₀ s top i = p .count - i
 
 loop-holds : tie.Need-loop-holds Inv-loop μ-loop
 loop-holds c = (omega arith, summed-start _ _ _)
 
 with-lamella-requires : tie.Need-with-lamella-requires Inv-loop μ-loop
 with-lamella-requires c κs =
-    let fits = summed-fits _ _ _ _ _ _ _ (c .before .loop .inv .1) (omega arith) (c .before .before .pre .1) in
+    let l = c .before .before .before in
+    let fits = summed-fits _ _ _ _ _ _ _ (l .loop .inv .1) (omega arith) (l .before .pre .thickness) in
     (fits .0, (search needs, fits .1))
 
 add-top : tie.Need-add-top Inv-loop μ-loop
 add-top c =
-    let l = c .before .before .before in
-    omega (arith, summed-fits _ _ _ _ _ _ _ (l .loop .inv .1) (search needs) (l .before .pre .1) .1)
+    let l = c .before .before .before .before .before in
+    omega (arith, summed-fits _ _ _ _ _ _ _ (l .loop .inv .1) (search needs) (l .before .pre .thickness) .1)
 
 loop-again : tie.Need-loop-again Inv-loop μ-loop
 loop-again c =
-    let c3 = c .before .before .before in (
-      omega arith,
-      summed-more _ _ _ _ _ _ _ _ (c3 .loop .inv .1) (c .before .with-lamella .ensures) (omega arith),
-    )
+    let l = c .before .before .before .before .before in
+    (omega arith, summed-more _ _ _ _ _ _ _ _ (l .loop .inv .1) (c .before .with-lamella .ensures) (omega arith))
 
 returns : tie.Need-returns Inv-loop μ-loop
 returns c =
-    let all : c .before .loop .i ≡ c .before .before .args .count = omega arith in
+    let all : c .before .loop .i ≡ c .before .before .args .t1 .count = omega arith in
     rw all at (c .before .loop .inv .1 .sums)
 
-pub section-of-spec : {M : Type 1} → statement M
-section-of-spec =
+pub section-at-spec : {M : Type 1} → statement M
+section-at-spec =
     tie.close
     (tie.spec
     Inv-loop
