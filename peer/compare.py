@@ -42,14 +42,18 @@ def random_depth(rng, record):
 
 
 def partner(rng, record):
-    """A second record for a comparison: the same build, nearly the same, or any other."""
+    """A second record for a comparison: the same build under another load, one number other, nearly the same, or any other."""
     panel = programs.panel_of(record)
-    way = rng.randrange(4)
+    way = rng.randrange(5)
     if way == 0 or not panel.lamellae:
         return random_records.random_record(rng)
     if way == 1:
-        return peer.encode(panel._replace(bond=1 - panel.bond, rate=rng.randint(50, 100), moment=0))
+        return peer.encode(panel._replace(strength=rng.randint(1, 400), moment=0))
     if way == 2:
+        number = rng.choice([("bond", 1 - panel.bond), ("rate", rng.randint(50, 100)), ("gap", 1 - panel.gap),
+                             ("failure_time", panel.failure_time + 1)])
+        return peer.encode(panel._replace(**dict([number])))
+    if way == 3:
         return peer.encode(random_records.at_a_limit(rng, panel))
     at = rng.randrange(17, len(record))
     return record[:at] + bytes([record[at] ^ 1 << rng.randrange(3)]) + record[at + 1:]

@@ -313,29 +313,31 @@ def build_cases():
     """(first record, second record, text)"""
     def pair(a, b, text):
         return peer.encode(a), peer.encode(b), text
-    clad_g = two(A, H)
+    clad_g, f = two(A, H), one(F, failure_time=30_000)
     yield pair(G, G, "the same record twice")
-    yield pair(G, G._replace(bond=1, rate=100, gap=1, strength=400, moment=0), "other load, bond, rate and gap")
-    yield pair(one(F, failure_time=21_000), one(F, failure_time=360_000), "other failure time")
-    yield pair(G, one(), "no board and one")
-    yield pair(one(), clad_g, "one board and two")
-    yield pair(clad_g, G, "two boards and none")
-    yield pair(one(A), one(H), "other type")
-    yield pair(one(O, 250), one(P, 250), "O and P")
-    yield pair(one(O, 250), one(O, 250, gap=1), "O, other gap")
-    yield pair(one(A, 250), one(O, 250), "A and O of one thickness")
-    yield pair(one(thickness=125), one(thickness=126), "other board thickness")
-    yield pair(one(joint=100), one(joint=99), "other coefficient")
-    yield pair(two(A, H), two(H, A), "boards the other way round")
-    yield pair(clad_g, clad_g._replace(boards=(clad_g.boards[0], Board(H, 250, 100))), "other inner board")
-    yield pair(clad_g, clad_g._replace(boards=(Board(A, 250, 100), clad_g.boards[1])), "other outer board")
-    yield pair(G, with_first_lamella(G, ALONG, 301), "other first lamella")
-    yield pair(G, G._replace(lamellae=G.lamellae[:2] + ((ALONG, 299),)), "other last lamella")
-    yield pair(G, G._replace(lamellae=((ALONG, 300), (ALONG, 400), (ALONG, 300))), "other direction")
-    yield pair(G, G._replace(lamellae=G.lamellae[:2]), "a lamella fewer")
-    yield pair(G, G._replace(lamellae=G.lamellae + ((ACROSS, 100),)), "a lamella more")
+    yield pair(G, G._replace(strength=400, moment=0), "other strength and moment")
     yield pair(LONGEST, LONGEST._replace(moment=0), "two boards and nine lamellae, other moment")
-    yield pair(RECOVERS, TURNED, "turned round")
+    yield pair(G, G._replace(bond=1, rate=100, gap=1, strength=400, moment=0), "all numbers other")
+    for a, b, text in (
+            (f, f._replace(bond=1), "other bond"), (f, f._replace(rate=66), "other rate"), (f, f._replace(gap=1), "other gap"),
+            (f, f._replace(failure_time=30_001), "other failure time"),
+            (f, f._replace(strength=241), "other strength"), (f, f._replace(moment=2_999), "other moment"),
+            (G, G._replace(gap=1), "other gap, unclad"), (G, G._replace(bond=1), "other bond, unclad"),
+            (one(O, 250), one(O, 250, gap=1), "O, other gap"),
+            (one(O, 250), one(P, 250), "O and P"), (one(A, 250), one(O, 250), "A and O of one thickness"),
+            (G, one(), "no board and one"), (one(), clad_g, "one board and two"), (clad_g, G, "two boards and none"),
+            (one(A), one(H), "other type"), (one(thickness=125), one(thickness=126), "other board thickness"),
+            (one(joint=100), one(joint=99), "other coefficient"), (two(A, H), two(H, A), "boards the other way round"),
+            (clad_g, clad_g._replace(boards=(clad_g.boards[0], Board(H, 250, 100))), "other inner board"),
+            (clad_g, clad_g._replace(boards=(Board(A, 250, 100), clad_g.boards[1])), "other outer board"),
+            (G, with_first_lamella(G, ALONG, 301), "other first lamella"),
+            (G, G._replace(lamellae=G.lamellae[:2] + ((ALONG, 299),)), "other last lamella"),
+            (G, G._replace(lamellae=((ALONG, 300), (ALONG, 400), (ALONG, 300))), "other direction"),
+            (G, G._replace(lamellae=G.lamellae[:2]), "a lamella fewer"),
+            (G, G._replace(lamellae=G.lamellae + ((ACROSS, 100),)), "a lamella more"),
+            (RECOVERS, TURNED, "turned round")):
+        yield pair(a, b, text)
+        yield pair(b, a, f"{text}, the other order")
     yield b"", g, "a blank panel first"
     yield g, b"", "a blank panel second"
     yield b"", b"", "two blank panels"
@@ -838,6 +840,12 @@ def built_lines():
     yield sum_line(G, "EI sum of the panel with unused places full")
     yield sum_line(G, "EI sum of the panel with unused places 0")
     yield refusals_line(G._replace(lamellae=G.lamellae + ((255, 65_535),)), "a full place used")
+    fast, loose, other = G._replace(rate=255), G._replace(bond=255), G._replace(strength=400, moment=0)
+    for a, b, text in (
+            (fast, loose, "the first meets 4, the second 3"), (loose, fast, "the first meets 3, the second 4"),
+            (G, loose, "the second alone meets 3"), (other, G, "other strength, moment and unused places"),
+            (other._replace(bond=1), G, "other bond too")):
+        yield f"{programs.compared(a, b)} {text}\n"
     greatest = Panel(255, 255, 255, 65_535, 2 ** 32 - 1, 2 ** 32 - 1, (Board(255, 65_535, 255),) * 2, ((255, 65_535),) * 10)
     yield refusals_line(greatest, "all fields at their greatest")
     yield space_line(greatest, "space after all fields at their greatest")

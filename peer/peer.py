@@ -73,8 +73,8 @@ def encode(panel):
 
 
 def same_build(a, b):
-    """Boards and lamellae agree, in order."""
-    return a.boards == b.boards and a.lamellae == b.lamellae
+    """Boards and lamellae agree, in order, and bond, rate, gap and failure time: all but strength and moment."""
+    return a._replace(strength=0, moment=0) == b._replace(strength=0, moment=0)
 
 
 # ---------------------------------------------------------------- Where a record is turned back

@@ -13,8 +13,9 @@ pub mod PhaseCases
 pub mod FirstRun
 -- Accepted panels: their limits.
 pub mod Accepted
--- Unused places do not matter.
+-- Unused places do not matter, and panels of the same build do not differ.
 pub mod Unused
+pub mod SameBuild
 -- What the functions need.
 pub mod Numbers
 pub mod Ways

@@ -73,7 +73,7 @@ char-same p q h n m = unused (λ (p : Panel). charAt p n m) (λ p. char-cleared 
 pub tenths-same : (p q : Panel) → SameUsed p q → (n m : ℕ) → tenthsAt p n m ≡ tenthsAt q n m
 tenths-same p q h n m = unused (λ (p : Panel). tenthsAt p n m) (λ p. tenths-cleared p n m) p q h
 
-phase-same : (p q : Panel) → SameUsed p q → (n m : ℕ) → phaseAt p n m ≡ phaseAt q n m
+pub phase-same : (p q : Panel) → SameUsed p q → (n m : ℕ) → phaseAt p n m ≡ phaseAt q n m
 phase-same p q h n m = unused (λ (p : Panel). phaseAt p n m) (λ p. phase-cleared p n m) p q h
 
 -- Answers
@@ -99,7 +99,7 @@ unfolding effectiveAnswer
 effective-unused p q h minute =
     rw (minute-refusal-same p q h minute, tenths-same p q h minute 1) refl
 
-table-same : (p q : Panel) → SameUsed p q → depthTable p ≡ depthTable q
+pub table-same : (p q : Panel) → SameUsed p q → depthTable p ≡ depthTable q
 unfolding depthTable
 table-same p q h =
     firsts-agree (λ (minute : ℕ). micrometresAt p minute 1) (λ (minute : ℕ). micrometresAt q minute 1) 361

@@ -1,3 +1,4 @@
 pub mod LateTimes
 pub mod Runs
 pub mod Unused
+pub mod SameBuild

@@ -4,6 +4,8 @@ pub mod FirstLine
 pub mod Accepted
 -- Unused places do not matter.
 pub mod Unused
+-- What the same build means.
+pub mod SameBuilds
 -- What the functions need.
 pub mod Tests
 -- Worked panels are accepted.

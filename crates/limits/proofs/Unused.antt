@@ -6,7 +6,7 @@ use Rattle.panel.specs.Lamellae.{cleared, SameUsed}
 use Rattle.panel.proofs.Used.{lamellae-cleared, count-cleared, cleared-same, unused}
 use Rattle.limits.specs.Lines.{refusal}
 use Rattle.limits.specs.Refusals.{panelLines, panelRefusal}
-use Rattle.limits.specs.Answers.{sectionAnswer, buildAnswer}
+use Rattle.limits.specs.Answers.{sectionAnswer, compared, buildAnswer}
 
 -- they meet the same lines
 pub lines-unused : (p q : Panel) → SameUsed p q → panelLines p ≡ panelLines q
@@ -23,7 +23,7 @@ section-unused p q h depth =
     (λ p. rw (refusal-unused (cleared p) p (cleared-same p), lamellae-cleared p) refl) p q h
 
 pub build-unused : (a b p q : Panel) → SameUsed a p → SameUsed b q → buildAnswer a b ≡ buildAnswer p q
-unfolding buildAnswer
+unfolding compared
 build-unused a b p q h k =
     unused (λ (a : Panel). buildAnswer a b)
     (λ a. rw (refusal-unused (cleared a) a (cleared-same a), lamellae-cleared a) refl) a p h

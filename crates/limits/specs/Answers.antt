@@ -19,6 +19,10 @@ abbrev pub sameIf : Bool → BuildAnswer
 sameIf true = Same
 sameIf false = Different
 
--- whether two panels are the same build. "Of two panels the first is checked before the second."
-unfoldable pub buildAnswer : Panel → Panel → BuildAnswer
-buildAnswer a b = answer (panelRefusal a) RefusedBuild (answer (panelRefusal b) RefusedBuild (sameIf (sameBuild a b)))
+-- two panels compared by a test. "Of two panels the first is checked before the second."
+unfoldable pub compared : (Panel → Panel → Bool) → Panel → Panel → BuildAnswer
+compared same a b = answer (panelRefusal a) RefusedBuild (answer (panelRefusal b) RefusedBuild (sameIf (same a b)))
+
+-- whether two panels are the same build
+abbrev pub buildAnswer : Panel → Panel → BuildAnswer
+buildAnswer a b = compared sameBuild a b

@@ -1,4 +1,4 @@
-// Whether boards and lamellae agree, in order.
+// Whether boards and lamellae agree, in order, and bond, rate, gap and failure time.
 use panel::Board;
 use panel::Cladding;
 use panel::Panel;
@@ -6,7 +6,7 @@ ghost use mathlib.Core.Path.{_≡_};
 ghost use mathlib.Core.Bool.{_&&_};
 ghost use Prim.Native.Nat.{_≤_};
 ghost use lib.Dec.{eqb};
-ghost use Rattle.panel.specs.Builds.{sameBoard, sameCladding, sameLamellae, sameBuild};
+ghost use Rattle.panel.specs.Builds.{sameBoard, sameCladding, sameLamellae, sameNumbers, sameBuild};
 ghost use Rattle.panel.specs.Lamellae.{lamellaeOf};
 
 fn same_board(a: Board, b: Board) -> bool
@@ -79,6 +79,12 @@ fn same_lamellae(a: Panel, b: Panel, count: usize) -> bool
     same
 }
 
+fn same_numbers(a: Panel, b: Panel) -> bool
+    ensures { λ r. ⌜ r ≡ sameNumbers a b ⌝ }
+{
+    (a.bond == b.bond) & (a.rate == b.rate) & (a.gap == b.gap) & (a.failure_time == b.failure_time)
+}
+
 // No open call: both panels must keep the limit of line 10.
 pub(crate) fn is_same_build(a: Panel, b: Panel) -> bool
     requires { ⌜ (a .count ≤ 9) × (b .count ≤ 9) ⌝ }
@@ -87,7 +93,7 @@ pub(crate) fn is_same_build(a: Panel, b: Panel) -> bool
     if a.count == b.count {
         let x = a.cladding;
         let y = b.cladding;
-        same_cladding(x, y) & same_lamellae(a, b, a.count)
+        same_cladding(x, y) & same_lamellae(a, b, a.count) & same_numbers(a, b)
     } else {
         false
     }

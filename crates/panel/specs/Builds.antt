@@ -1,5 +1,7 @@
--- Document 01: "Two panels are the same build when boards and lamellae agree, in order; load, bond, rate, gap and failure time
--- are not looked at."
+-- Same build, a term of document 01. Document 02, 2/14: "two panels are the same build exactly when boards and lamellae and also bond,
+-- rate, gap and failure time agree. Strength and moment still don't count."
+use Prim.Native.Nat.{ℕ}
+use mathlib.Core.Path.{_≡_}
 use mathlib.Core.List.{List, [], _∷_}
 use mathlib.Core.Bool.{Bool, true, false, _&&_}
 use lib.Dec.{eqb}
@@ -7,6 +9,7 @@ use Rattle.panel.specs.declared.Board.{Board}
 use Rattle.panel.specs.declared.Cladding.{Cladding}
 use Rattle.panel.specs.declared.Cladding.the-variants.{Unclad, One, Two}
 use Rattle.panel.specs.declared.Panel.{Panel}
+use Rattle.panel.specs.Boards.{boardsOf}
 use Rattle.panel.specs.Lamellae.{Lamella, lamellae}
 
 -- type, thickness and joint coefficient agree
@@ -34,5 +37,42 @@ sameLamellae [] (y ∷ ys) = false
 sameLamellae (x ∷ xs) [] = false
 sameLamellae (x ∷ xs) (y ∷ ys) = sameLamella x y && sameLamellae xs ys
 
+-- "boards and lamellae agree, in order"
+abbrev pub sameLayers : Panel → Panel → Bool
+sameLayers a b = sameCladding (a .cladding) (b .cladding) && sameLamellae (lamellae a) (lamellae b)
+
+-- "bond, rate, gap and failure time agree": the failure time that was given
+abbrev pub sameNumbers : Panel → Panel → Bool
+sameNumbers a b =
+    eqb (a .bond) (b .bond)
+    && eqb (a .rate) (b .rate)
+    && eqb (a .gap) (b .gap)
+    && eqb (a .«failure_time») (b .«failure_time»)
+
 abbrev pub sameBuild : Panel → Panel → Bool
-sameBuild a b = sameCladding (a .cladding) (b .cladding) && sameLamellae (lamellae a) (lamellae b)
+sameBuild a b = sameLayers a b && sameNumbers a b
+
+-- what the test says: the boards are the same list, the lamellae are, and the four numbers are equal
+pub record SameBuild (a b : Panel) : Type 0 where
+  pub boards : boardsOf (a .cladding) ≡ boardsOf (b .cladding)
+  pub lamellae : Rattle.panel.specs.Lamellae.lamellae a ≡ Rattle.panel.specs.Lamellae.lamellae b
+  pub bond : a .bond ≡ b .bond
+  pub rate : a .rate ≡ b .rate
+  pub gap : a .gap ≡ b .gap
+  pub «failure_time» : a .«failure_time» ≡ b .«failure_time»
+
+-- a panel of another strength under another moment: nothing else of it changes
+abbrev pub withLoad : Panel → ℕ → ℕ → Panel
+withLoad p strength moment =
+    record {
+      bond = p .bond;
+      rate = p .rate;
+      gap = p .gap;
+      strength = strength;
+      moment = moment;
+      «failure_time» = p .«failure_time»;
+      cladding = p .cladding;
+      count = p .count;
+      directions = p .directions;
+      thicknesses = p .thicknesses;
+    }

@@ -1,1 +1,2 @@
 pub mod Unused
+pub mod SameBuild

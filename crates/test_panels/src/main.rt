@@ -113,7 +113,7 @@ fn print_build(a: Panel, b: Panel, name: &[u8]) {
     match answer {
         BuildAnswer::Same => output::text(b"same"),
         BuildAnswer::Different => output::text(b"different"),
-        BuildAnswer::Refused(_) => output::text(b"refused"),
+        BuildAnswer::Refused(n) => output::refused(n),
     }
     output::end_line(name);
 }
@@ -274,6 +274,27 @@ fn print_unused() {
     print_panel(unclad(4, directions, thicknesses), b"a full place used");
 }
 
+// Of two panels the first is checked before the second; strength, moment and unused places do not count.
+fn print_builds() {
+    let mut fast = g();
+    fast.rate = 255;
+    let mut loose = g();
+    loose.bond = 255;
+    print_build(fast, loose, b"the first meets 4, the second 3");
+    print_build(loose, fast, b"the first meets 3, the second 4");
+    print_build(g(), loose, b"the second alone meets 3");
+    let mut other = unclad(
+        3,
+        [1u8, 0, 1, 1, 1, 1, 1, 1, 1],
+        [300u16, 400, 300, 7, 7, 7, 7, 7, 7],
+    );
+    other.strength = 400;
+    other.moment = 0;
+    print_build(other, g(), b"other strength, moment and unused places");
+    other.bond = 1;
+    print_build(other, g(), b"other bond too");
+}
+
 fn print_greatest() {
     let mut p = panel(
         Cladding::Two(board(255, 65535, 255), board(255, 65535, 255)),
@@ -323,6 +344,7 @@ fn main() {
     print_wood_boards();
     print_lamellae();
     print_unused();
+    print_builds();
     print_greatest();
     print_starts();
 }

@@ -3,7 +3,7 @@
 use Prim.Native.Nat.{ℕ}
 use Rattle.limits.proofs.Tests.{sameLamellae-unequal}
 use Rattle.panel.proofs.Used.{length-lamellaeOf}
-use Rattle.panel.specs.Builds.{sameLamellae, sameCladding}
+use Rattle.panel.specs.Builds.{sameLamellae, sameCladding, sameNumbers}
 use Rattle.panel.specs.Lamellae.{lamellaeOf, lamellae}
 use borrow.Author.Needs.{needs}
 use mathlib.Core.Bool.{Bool, false, _&&_, and-false}
@@ -13,12 +13,14 @@ use Rattle.limits.proofs.builds.is_same_build.Tie as tie
 
 returns : tie.Need-returns
 returns c =
-    let args = c .before .before .before .before .before .args in
+    let args = c .before .before .before .before .before .before .args in
     let a = args .a in
     let b = args .b in
-    ap₂ (λ (x y : Bool). x && y) (c .before .same-cladding .ensures)
-    (c .same-lamellae .ensures ∙ ap (λ (n : ℕ). sameLamellae (lamellae a) (lamellaeOf (b .directions) (b .thicknesses) n))
-    (c .before .before .if1 .taken))
+    ap₂ (λ (x y : Bool). x && y)
+    (ap₂ (λ (x y : Bool). x && y) (c .before .before .same-cladding .ensures)
+    (c .before .same-lamellae .ensures ∙ ap (λ (n : ℕ). sameLamellae (lamellae a) (lamellaeOf (b .directions) (b .thicknesses) n))
+    (c .before .before .before .if1 .taken)))
+    (c .same-numbers .ensures)
 
 returns-2 : tie.Need-returns-2
 returns-2 c =
@@ -30,9 +32,11 @@ returns-2 c =
     (λ e. c .if1 .left (sym (length-lamellaeOf (a .directions) (a .thicknesses) (a .count)) ∙ e ∙ length-lamellaeOf
     (b .directions) (b .thicknesses) (b .count)))
     in
-    sym (ap (λ (t : Bool). sameCladding (a .cladding) (b .cladding) && t) unequal ∙ and-false (sameCladding (a .cladding) (b .cladding)))
+    sym
+    (ap (λ (t : Bool). sameCladding (a .cladding) (b .cladding) && t && sameNumbers a b) unequal
+    ∙ ap (λ (t : Bool). t && sameNumbers a b) (and-false (sameCladding (a .cladding) (b .cladding))))
 
 pub is-same-build-spec : {M : Type 1} → statement M
 is-same-build-spec =
     tie.close
-    (tie.spec (λ c κs. search needs) (λ c κs. search needs) returns returns-2)
+    (tie.spec (λ c κs. search needs) (λ c κs. search needs) (λ c κs. search needs) returns returns-2)

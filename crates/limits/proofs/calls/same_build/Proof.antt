@@ -2,7 +2,7 @@
 -- Assumes nothing.
 use Rattle.limits.proofs.Accepted.{accepted-fits}
 use Rattle.limits.proofs.FirstLine.{turned-back, let-through}
-use Rattle.limits.specs.Answers.{buildAnswer, sameIf}
+use Rattle.limits.specs.Answers.{compared, sameIf}
 use Rattle.limits.specs.declared.BuildAnswer.the-variants.{Refused}
 use borrow.Author.Needs.{needs}
 use mathlib.Core.Path.{sym, ap, _∙_}
@@ -10,11 +10,11 @@ use Rattle.limits.proofs.calls.same_build.Statement.{statement}
 use Rattle.limits.proofs.calls.same_build.Tie as tie
 
 returns : tie.Need-returns
-unfolding buildAnswer
+unfolding compared
 returns c = turned-back Refused _ (c .before .panel-refusal .ensures) (c .if1 .taken)
 
 returns-2 : tie.Need-returns-2
-unfolding buildAnswer
+unfolding compared
 returns-2 c =
     let first = c .before .before in
     let-through Refused (first .before .panel-refusal .ensures) (first .if1 .left)
@@ -29,7 +29,7 @@ is-same-build-requires c κs =
     )
 
 returns-3 : tie.Need-returns-3
-unfolding buildAnswer
+unfolding compared
 returns-3 c =
     let second = c .before .before in
     let first = second .before .before in
