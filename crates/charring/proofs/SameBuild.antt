@@ -4,7 +4,7 @@ use Prim.Native.Nat.{ℕ}
 use mathlib.Core.Path.{_≡_, refl, sym, _∙_}
 use mathlib.Core.List.{List, _++_}
 use Rattle.panel.specs.declared.Panel.{Panel}
-use Rattle.panel.specs.Builds.{SameBuild, withLoad}
+use Rattle.panel.specs.Builds.{SameBuild}
 use Rattle.panel.proofs.Builds.{same-shared}
 use Rattle.limits.specs.Lines.{Line, refusal}
 use Rattle.limits.specs.Refusals.{panelLines, panelRefusal}

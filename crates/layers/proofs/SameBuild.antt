@@ -1,5 +1,5 @@
 -- Panels of the same build have the same layers and EI, and the calls answer alike.
-use mathlib.Core.Path.{_≡_, refl, ap}
+use mathlib.Core.Path.{_≡_, ap}
 use Rattle.panel.specs.declared.Panel.{Panel}
 use Rattle.panel.specs.Builds.{SameBuild}
 use Rattle.limits.specs.Refusals.{panelRefusal}

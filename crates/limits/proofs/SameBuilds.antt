@@ -1,7 +1,7 @@
 -- What the answer of `same_build` says of two panels (document 02, 2/14): exactly when they are the same build, that panels with other
 -- boards or lamellae are different, and that the same build is an equivalence, so that panels of one build can share a card number.
 use Prim.Native.Nat.{ℕ, zero, suc}
-use mathlib.Core.Path.{_≡_, refl, sym, ap, _∙_}
+use mathlib.Core.Path.{_≡_, refl}
 use mathlib.Core.Logic.{_↔_}
 use mathlib.Core.Bool.{Bool, true, false}
 use native.Mathlib.Omega.{arith}
@@ -10,13 +10,11 @@ use Rattle.panel.specs.declared.Panel.{Panel}
 use Rattle.panel.specs.Boards.{boardsOf}
 use Rattle.panel.specs.Lamellae.{lamellae}
 use Rattle.panel.specs.Builds.{sameLayers, sameNumbers, sameBuild, SameBuild}
-use Rattle.panel.proofs.Builds.{same-exactly, same-itself, same-turned, same-chained}
-use Rattle.limits.specs.declared.BuildAnswer.{BuildAnswer}
+use Rattle.panel.proofs.Builds.{same-exactly, build-reflexive, build-symmetric, build-transitive}
 use Rattle.limits.specs.declared.BuildAnswer.the-variants.{Same, Different, Refused}
 use Rattle.limits.specs.Lines.{answer}
 use Rattle.limits.specs.Refusals.{panelRefusal}
 use Rattle.limits.specs.Answers.{sameIf, compared, buildAnswer}
-use Rattle.limits.proofs.FirstLine.{answered}
 
 -- What an answer rests on
 
@@ -91,16 +89,16 @@ module _ (a b : Panel) where
 
 -- Of accepted panels the same build is an equivalence
 
-pub same-as-itself : (p : Panel) → panelRefusal p ≡ 0 → buildAnswer p p ≡ Same
-same-as-itself p e = same-when p p .1 (e, (e, same-itself p))
+pub same-reflexive : (p : Panel) → panelRefusal p ≡ 0 → buildAnswer p p ≡ Same
+same-reflexive p e = same-when p p .1 (e, (e, build-reflexive p))
 
-pub same-either-way : (a b : Panel) → buildAnswer a b ≡ Same → buildAnswer b a ≡ Same
-same-either-way a b e =
+pub same-symmetric : (a b : Panel) → buildAnswer a b ≡ Same → buildAnswer b a ≡ Same
+same-symmetric a b e =
     let h = same-when a b .0 e in
-    same-when b a .1 (h .1 .0, (h .0, same-turned a b (h .1 .1)))
+    same-when b a .1 (h .1 .0, (h .0, build-symmetric a b (h .1 .1)))
 
-pub same-in-turn : (a b c : Panel) → buildAnswer a b ≡ Same → buildAnswer b c ≡ Same → buildAnswer a c ≡ Same
-same-in-turn a b c e f =
+pub same-transitive : (a b c : Panel) → buildAnswer a b ≡ Same → buildAnswer b c ≡ Same → buildAnswer a c ≡ Same
+same-transitive a b c e f =
     let h = same-when a b .0 e in
     let k = same-when b c .0 f in
-    same-when a c .1 (h .0, (k .1 .0, same-chained a b c (h .1 .1) (k .1 .1)))
+    same-when a c .1 (h .0, (k .1 .0, build-transitive a b c (h .1 .1) (k .1 .1)))

@@ -1,12 +1,26 @@
--- G with M 43,056 is accepted, by computation, so that what holds of accepted panels is said of one. Assumes nothing.
+-- G with M 43,056 is accepted, by computation, so that what holds of accepted panels is said of one; and G beside others, so that what
+-- holds of the same build and of different ones is. Assumes nothing.
 use mathlib.Core.Path.{_≡_, refl}
 use Rattle.panel.specs.Lamellae.{lamellaeOf, thickness}
-use Rattle.panel.specs.Worked.{g}
+use Rattle.panel.specs.Builds.{sameLamellae}
+use Rattle.panel.specs.Worked.{g, gFalling}
 use Rattle.section.specs.Sections.{countedFrom, total, lowest, highest, sectionOf}
 use Rattle.section.specs.Tests.{carries}
 use Rattle.limits.specs.Causes.{some}
 use Rattle.limits.specs.Refusals.{panelRefusal}
+use Rattle.limits.specs.declared.BuildAnswer.the-variants.{Same, Different}
+use Rattle.limits.specs.Answers.{compared, buildAnswer}
 
 pub g-accepted : panelRefusal (g 43056) ≡ 0
 unfolding panelRefusal some lamellaeOf thickness countedFrom total lowest highest sectionOf carries
 g-accepted = refl
+
+-- under another moment: the same build
+pub g-same : buildAnswer (g 3000) (g 0) ≡ Same
+unfolding compared sameLamellae panelRefusal some lamellaeOf thickness countedFrom total lowest highest sectionOf carries
+g-same = refl
+
+-- "although one panel had falling bonds"
+pub g-different : buildAnswer (g 3000) (gFalling 3000) ≡ Different
+unfolding compared sameLamellae panelRefusal some lamellaeOf thickness countedFrom total lowest highest sectionOf carries
+g-different = refl

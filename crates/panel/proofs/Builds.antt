@@ -122,11 +122,11 @@ same-exactly a b = (says, passes)
 
 -- An equivalence
 
-pub same-itself : (p : Panel) → SameBuild p p
-same-itself p = record { boards = refl; lamellae = refl; bond = refl; rate = refl; gap = refl; «failure_time» = refl }
+pub build-reflexive : (p : Panel) → SameBuild p p
+build-reflexive p = record { boards = refl; lamellae = refl; bond = refl; rate = refl; gap = refl; «failure_time» = refl }
 
-pub same-turned : (a b : Panel) → SameBuild a b → SameBuild b a
-same-turned a b h =
+pub build-symmetric : (a b : Panel) → SameBuild a b → SameBuild b a
+build-symmetric a b h =
     record {
       boards = sym (h .boards);
       lamellae = sym (h .lamellae);
@@ -136,8 +136,8 @@ same-turned a b h =
       «failure_time» = sym (h .«failure_time»);
     }
 
-pub same-chained : (a b c : Panel) → SameBuild a b → SameBuild b c → SameBuild a c
-same-chained a b c h k =
+pub build-transitive : (a b c : Panel) → SameBuild a b → SameBuild b c → SameBuild a c
+build-transitive a b c h k =
     record {
       boards = h .boards ∙ k .boards;
       lamellae = h .lamellae ∙ k .lamellae;
