@@ -1,6 +1,7 @@
 /* The card in plain C, by the steps of the Rattle code, to compare their cost: the record is read and checked, the load minute is
    found minute by minute with each tenth of mm tested once and its section worked out anew, what is the same at every minute is worked
-   out once, basic times come from tables and late layer times from halving, and the text is made aside and copied.
+   out once, basic times come from tables and late layer times from halving, and the text is made aside and copied. A panel with its fire
+   on the last face is turned once; with a fire on each face it is worked as it lies and turned.
    tables.h is written by run.py. */
 #include <stdbool.h>
 #include <string.h>
@@ -15,7 +16,7 @@ typedef struct {
 } Board;
 
 typedef struct {
-    uint8_t bond, rate, gap;
+    uint8_t version, face, bond, rate, gap;
     uint16_t strength;
     uint32_t moment, failure_time;
     size_t boards;
@@ -109,10 +110,16 @@ static bool bad_thickness(Board b)
 /* The refusal's number, or 0 and the panel. */
 static int read_record(const uint8_t *b, size_t length, Panel *p)
 {
-    if (length < 21 || 53 < length || number(b, 2) != length)
+    if (length < 21 || 54 < length || number(b, 2) != length)
         return 1;
-    if (b[2] != 1)
+    p->version = b[2];
+    if (p->version != 1 && p->version != 2)
         return 2;
+    size_t more = p->version == 2; /* the face byte */
+    p->face = more ? b[3] : 0;
+    if (2 < p->face)
+        return 16;
+    b += more;
     p->bond = b[3];
     p->rate = b[4];
     p->gap = b[5];
@@ -126,7 +133,7 @@ static int read_record(const uint8_t *b, size_t length, Panel *p)
         return 4;
     if (p->strength < 1 || 400 < p->strength || 1000000 < p->moment)
         return 5;
-    if (2 < p->boards || length < 21 + 4 * p->boards)
+    if (2 < p->boards || length < 21 + more + 4 * p->boards)
         return 6;
     const uint8_t *at = b + 17;
     for (size_t i = 0; i < p->boards; i++, at += 4)
@@ -140,7 +147,7 @@ static int read_record(const uint8_t *b, size_t length, Panel *p)
     if (is_f(p) ? p->failure_time < charring_start(p) || 360000 < p->failure_time : p->failure_time != 0)
         return 9;
     p->count = *at++;
-    if (p->count < 1 || 9 < p->count || length != 18 + 4 * p->boards + 3 * p->count)
+    if (p->count < 1 || 9 < p->count || length != 18 + more + 4 * p->boards + 3 * p->count)
         return 10;
     uint32_t sum = 0;
     bool bad = false, along = false;
@@ -157,6 +164,16 @@ static int read_record(const uint8_t *b, size_t length, Panel *p)
     if (!along)
         return 12;
     return depth_passes(p, 0) ? 0 : 13;
+}
+
+static Panel turned(const Panel *p)
+{
+    Panel t = *p;
+    for (size_t i = 0; i < p->count; i++) {
+        t.directions[i] = p->directions[p->count - 1 - i];
+        t.thicknesses[i] = p->thicknesses[p->count - 1 - i];
+    }
+    return t;
 }
 
 /* ---- charring */
@@ -332,9 +349,16 @@ int32_t yurbantse_card(const uint8_t *bytes, size_t bytes_length, uint8_t *out, 
     int refusal = read_record(bytes, bytes_length, &p);
     if (refusal != 0)
         return -refusal;
+    if (p.face == 1)
+        p = turned(&p);
     Fire f = fire_of(&p);
     uint32_t load = load_minute(&p, &f), ei = ei_minute(&p);
-    uint8_t space[YURBANTSE_CARD_MOST], *at = put_line(space, "CARD", (uint32_t[]){1}, 1);
+    if (p.face == 2) { /* the numbers of f do not look at the order of the lamellae */
+        Panel t = turned(&p);
+        load = (uint32_t)smaller(load, load_minute(&t, &f));
+        ei = (uint32_t)smaller(ei, ei_minute(&t));
+    }
+    uint8_t space[YURBANTSE_CARD_MOST], *at = put_line(space, "CARD", (uint32_t[]){p.version}, 1);
     for (uint32_t minute = 30; minute <= 120; minute += 30)
         at = put_line(at, "CHAR", (uint32_t[]){minute, micrometres_in(&p, &f, minute), tenths_in(&p, &f, minute)}, 3);
     at = put_line(at, "R", (uint32_t[]){load, grade(load)}, 2);

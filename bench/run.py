@@ -1,8 +1,9 @@
 """run.py [REPOSITORY] [--panels N] [--seed S] [--cc COMPILER]
 
 What a card costs, in instructions counted by callgrind: the proved library (target/staticlib/libcard_c.a, by `rt staticlib card_c`) beside
-bench/card.c, the same steps in plain C at -O3. Both print the same cards for N random panels first. Of an input the cost is what two more
-passes over it take beyond one, so that start-up does not count. Ends with status 1 where the cards differ or something is missing.
+bench/card.c, the same steps in plain C at -O3. Both print the same cards for N random panels first, of version 1, with the fire on the
+last face of the same panels turned, and with a fire on each face. Of an input the cost is what two more passes over it take beyond one, so
+that start-up does not count. Ends with status 1 where the cards differ or something is missing.
 """
 import os
 import random
@@ -70,7 +71,7 @@ def row(word, both):
 def plate(total, count):
     """A panel of lamellae along, as equal as can be, that carries nothing: bare, at the greatest rate, with bonds that fall."""
     parts = [total // count + (1 if i < total % count else 0) for i in range(count)]
-    return Panel(1, 100, 0, 240, 0, 0, (), tuple((1, part) for part in parts))
+    return Panel(1, 0, 1, 100, 0, 240, 0, 0, (), tuple((1, part) for part in parts))
 
 
 def main():
@@ -88,12 +89,15 @@ def main():
 
     kinds = {word: [kind(random.Random(f"{given.seed} {i}")) for i in range(given.panels)]
              for word, kind in (("any panels", random_records.random_panel), ("failing at any minute", random_records.failing_about))}
+    drawn = kinds["failing at any minute"]
+    kinds["the same, last face"] = [random_records.turned(panel)._replace(version=2, face=peer.LAST_FACE) for panel in drawn]
+    kinds["the same, each face"] = [panel._replace(version=2, face=peer.EACH_ALONE) for panel in drawn]
     for panels in kinds.values():
         path = write_records(folder, panels)
         said = [subprocess.run([program, path], capture_output=True, check=True).stdout for program in programs.values()]
-        if said[0] != said[1] or said[0].count(b"CARD 1\n") != len(panels):
+        if said[0] != said[1] or said[0].count(b"CARD ") != len(panels):
             sys.exit("the cards differ")
-    print(f"{2 * given.panels} cards, the same by both")
+    print(f"{len(kinds) * given.panels} cards, the same by both")
     print(f"{'instructions per card':>24} {'Rattle':>12} {'C':>12} {'ratio':>8}")
     for word, panels in kinds.items():
         row(word, costs(programs, folder, panels))

@@ -5,7 +5,7 @@
 
 int main(void)
 {
-    uint8_t bytes[64]; /* the longest record has 53 bytes: of a longer input the first 64 are refused for their length */
+    uint8_t bytes[64]; /* the longest record has 54 bytes: of a longer input the first 64 are refused for their length */
     size_t length = fread(bytes, 1, sizeof bytes, stdin);
     uint8_t text[YURBANTSE_CARD_MOST];
     int32_t n = yurbantse_card(bytes, length, text, sizeof text);

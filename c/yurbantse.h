@@ -1,6 +1,7 @@
 /* The fire card for programs in C: the two functions of the proved crate card_c (target/staticlib/libcard_c.a, x86-64 Linux).
 
-   A record is that of docs/SPECIFICATION.md, part 2: big-endian, 21 to 53 bytes. Lengths in it are in tenths of mm, the rate in hundredths
+   A record is that of docs/SPECIFICATION.md, part 2: big-endian, 21 to 53 bytes in version 1, 22 to 54 in version 2, which has a byte for
+   the face that the fire is on after the version: 0 the first, 1 the last, 2 each alone. Version 1 means the first. Lengths in a record are in tenths of mm, the rate in hundredths
    of mm/min, the strength in tenths of N/mm2, the moment in N·m per metre of width, the failure time in thousandths of a minute. There is
    no board, one or two of gypsum (types A, F and H), or one of OSB (O) or particle board (P).
 
@@ -22,16 +23,17 @@ extern "C" {
 #define YURBANTSE_CARD_MOST 232
 
 /* Writes the card of the record in `bytes` into `out`: lines of ASCII, each ending in a line feed, with no 0 after the last.
-   CHAR has the minute, the char depth in micrometres and the effective depth in tenths of mm; R and EI have minutes and grades.
+   CARD has the record's version; CHAR has the minute, the char depth in micrometres and the effective depth in tenths of mm; R and EI have
+   minutes and grades. For face 2 these are the lesser of the two fires, and the depths those of the first face.
 
    Answers the number of bytes written; what `out` held after them stays. Or answers minus the number of the refusal, and `out` is as it
    was, every byte of it:
 
      -1 length          -4 rate               -7 board types     -10 lamella count                       -13 section: depth 0 fails
      -2 version         -5 strength, moment   -8 board numbers   -11 lamella direction, thickness, sum   -14 `out` too short
-     -3 bond, gap       -6 board count        -9 failure time    -12 no lamella along
+     -3 bond, gap       -6 board count        -9 failure time    -12 no lamella along                    -16 face
 
-   The first of these that fits is answered, so -14 only where the record is accepted. Space for exactly the card is enough. */
+   The first of these that fits is answered, -16 being looked at after -2 and -14 last, so only where the record is accepted. Space for exactly the card is enough. */
 int32_t yurbantse_card(const uint8_t *bytes, size_t bytes_length, uint8_t *out, size_t out_length);
 
 /* Writes the line `REFUSED n` with its line feed into `out` and answers its bytes, 10 to 12; or answers -14 where `out` is shorter than

@@ -1,14 +1,14 @@
-"""check.py [N]: holds peer.py to the figures of documents 01 and 02 and of the notes on its readings, and R to its definition on
-the panels of test_cards and N random ones."""
+"""check.py [N]: holds peer.py to the figures of documents 01 and 02 and of the notes on its readings, R to its definition on the panels
+of test_cards, in either fire, and on N random ones, and the last face's fire to that of a panel recorded the other way round."""
 import argparse
 import random
 from fractions import Fraction
 
 import peer
 import random_records
-from make_cases import (A, ALONG, F, G, H, O, P, RECOVERS, behind, clad, crossed, falls, load_panels, one, plate, reading_cases, two,
-                        with_first_lamella)
-from peer import Board
+from make_cases import (A, ALONG, F, G, H, LONGEST, O, P, RECOVERS, SHORTEST, behind, clad, crossed, faced, falls, load_panels, one,
+                        patched, plate, reading_cases, two, wall_panels, with_first_lamella, with_length)
+from peer import Board, EACH_ALONE, FIRST_FACE, LAST_FACE
 
 ROLES = ("protection", "insulation")
 
@@ -68,6 +68,43 @@ def check_wood_boards():
         same(peer.panel_refusal(one(kind, 200, failure_time=1)), 9)
 
 
+def check_versions():
+    """Document 02, 3/14: what is read, refused and written in both versions, and which panels are the same build."""
+    g, g2 = peer.encode(G), peer.encode(faced(G, EACH_ALONE))
+    same((len(g2), g2[2:4], g2[4:]), (len(g) + 1, bytes([2, 2]), g[3:]))
+    same(peer.card_text(peer.encode(faced(G, FIRST_FACE))), PRINTED.replace(b"CARD 1", b"CARD 2"))
+    for panel in (G, faced(G, LAST_FACE), faced(LONGEST, EACH_ALONE)):
+        same(peer.decode(peer.encode(panel)), (0, panel))
+    same([len(peer.encode(faced(panel, FIRST_FACE))) for panel in (SHORTEST, LONGEST)], [22, 54])
+    for panel, refusals in ((LONGEST, [1, 6, 6, 10, 10, 10, 0, 10, 1]), (faced(LONGEST, FIRST_FACE), [1, 6, 6, 6, 10, 10, 10, 0, 1])):
+        record = peer.encode(panel) + bytes(2)
+        same([peer.decode(with_length(record[:length]))[0] for length in (20, 21, 28, 29, 30, 52, 53, 54, 55)], refusals)
+    same([peer.decode(patched(g2, at, byte))[0] for at, byte in ((2, 0), (2, 3), (3, 3), (3, 255))], [2, 2, 16, 16])
+    same([peer.panel_refusal(G._replace(version=version, face=face, bond=2)) for version, face in
+          ((0, 3), (3, 0), (1, 1), (1, 2), (2, 3), (1, 0), (2, 2))], [2, 2, 16, 16, 16, 3, 3])
+    same([peer.same_build(G, other) for other in (faced(G, 0)._replace(moment=0), faced(G, 1), faced(G, 2))], [True, False, False])
+
+
+def depths(panel):
+    """What is told of the fire at times and at depths."""
+    return (peer.depth_table(panel), [(peer.char(panel, minute), peer.effective_depth(panel, minute)) for minute in range(0, 361, 7)],
+            [peer.section(panel, depth) for depth in range(0, 4_001, 29)])
+
+
+def check_faces(panel):
+    """The last face's fire is the fire on the panel recorded the other way round; for face 2 what is printed is the lesser of the two."""
+    first, last, each = (faced(panel, face) for face in (FIRST_FACE, LAST_FACE, EACH_ALONE))
+    turned = first._replace(lamellae=panel.lamellae[::-1])
+    same(depths(last), depths(turned))
+    same(depths(each), depths(first))
+    same(peer.card(first).partition(b"\n")[2], peer.card(panel).partition(b"\n")[2])
+    same(peer.card(last), peer.card(turned))
+    for minute_of in (peer.load_minute, peer.ei_sum, peer.ei_minute):
+        same(minute_of(last), minute_of(turned))
+        same(minute_of(each), min(minute_of(first), minute_of(last)))
+    same(peer.depth_passes(first, 0), peer.depth_passes(last, 0))
+
+
 def check_readings():
     """The base records of the notes, by their numbers there."""
     same(peer.ei_minute(of("001f0100640100f000000aef01000000004800960103000091010190000068")), 73)  # 1
@@ -91,12 +128,13 @@ def check_readings():
 
 
 def check_load_minutes(count):
-    for panel, _ in list(load_panels()) + list(reading_cases()):
-        peer.check_load_minute(panel)
+    for panel, _ in list(load_panels()) + list(reading_cases()) + list(wall_panels()):
+        peer.check_load_minute(faced(panel, EACH_ALONE))
+        check_faces(panel)
     rng = random.Random(1)
     kinds = (random_records.random_panel, random_records.failing_about, random_records.failing_at_once, random_records.recovering)
     for number in range(count):
-        peer.check_load_minute(kinds[number % len(kinds)](rng))
+        peer.check_load_minute(random_records.any_face(rng, kinds[number % len(kinds)](rng)))
 
 
 if __name__ == "__main__":
@@ -105,6 +143,7 @@ if __name__ == "__main__":
     count = words.parse_args().count
     check_document()
     check_wood_boards()
+    check_versions()
     check_readings()
     check_load_minutes(count)
     print("the peer agrees")

@@ -24,6 +24,7 @@ import random_records
 ROOM = 65_000  # bytes of one input
 GROUP = 300    # cases of one input
 FEW = 4        # cases of one input where each is many steps: a depth table, a load minute
+BUILT = 5      # lines that a case of test_panels prints
 MANY_STEPS = ("table", "card", "load", "reserve", "loadgrade", "reigrade")
 
 
@@ -34,7 +35,7 @@ def random_space(rng, record):
 def random_depth(rng, record):
     """Near an edge of a lamella, past the back face, or anywhere in the panel."""
     edges, at = [0], 0
-    for _, thickness in programs.panel_of(record).lamellae:
+    for _, thickness in peer.from_fire(programs.panel_of(record)):
         at += thickness
         edges.append(at)
     near = rng.choice(edges) + rng.choice([-31, -30, -29, -1, 0, 1, 29, 30, 31])
@@ -42,9 +43,10 @@ def random_depth(rng, record):
 
 
 def partner(rng, record):
-    """A second record for a comparison: the same build under another load, one number other, nearly the same, or any other."""
+    """A second record for a comparison: the same build under another load or in the other version, one number other, the face other on
+    the panel or on the panel turned, nearly the same, or any other."""
     panel = programs.panel_of(record)
-    way = rng.randrange(5)
+    way = rng.randrange(7)
     if way == 0 or not panel.lamellae:
         return random_records.random_record(rng)
     if way == 1:
@@ -55,6 +57,10 @@ def partner(rng, record):
         return peer.encode(panel._replace(**dict([number])))
     if way == 3:
         return peer.encode(random_records.at_a_limit(rng, panel))
+    if way == 4:  # version 1 has no face byte: a panel with face 1 or 2 then has face 0
+        return peer.encode(panel._replace(version=3 - panel.version, moment=0))
+    if way == 5:
+        return peer.encode(panel._replace(version=2, face=rng.randrange(3), lamellae=panel.lamellae[::rng.choice([1, -1])]))
     at = rng.randrange(17, len(record))
     return record[:at] + bytes([record[at] ^ 1 << rng.randrange(3)]) + record[at + 1:]
 
@@ -63,7 +69,7 @@ def random_layers(rng, record):
     """The record, or half of the time one with a layer at the switch of the layer step."""
     if rng.random() < 0.5:
         return record
-    return peer.encode(random_records.at_switch(rng, random_records.random_panel(rng)))
+    return random_records.any_record(rng, random_records.at_switch(rng, random_records.random_panel(rng)))
 
 
 def random_minute(rng):
@@ -78,8 +84,8 @@ def random_fire(rng, record):
     if way == 0:
         return record
     if way == 1:
-        return peer.encode(random_records.met_at_failure(rng))
-    return peer.encode(random_records.soon_failing(rng, random_records.random_panel(rng)))
+        return random_records.any_record(rng, random_records.met_at_failure(rng))
+    return random_records.any_record(rng, random_records.soon_failing(rng, random_records.random_panel(rng)))
 
 
 def random_fire_minute(rng, record):
@@ -98,10 +104,10 @@ def random_load(rng, record):
     if way == 1:
         return random_fire(rng, record)
     if way == 2:
-        return peer.encode(random_records.failing_at_once(rng))
+        return random_records.any_record(rng, random_records.failing_at_once(rng))
     if way == 3:
-        return peer.encode(random_records.recovering(rng))
-    return peer.encode(random_records.failing_about(rng))
+        return random_records.any_record(rng, random_records.recovering(rng))
+    return random_records.any_record(rng, random_records.failing_about(rng))
 
 
 def random_card_space(rng, text):
@@ -174,7 +180,7 @@ def pieces(call, all_cases):
 
 def built_case(rng, number):
     """A random panel, often past a limit, as Rattle code that builds and prints it, and what peer.py says of it."""
-    panel = random_records.random_panel(rng)
+    panel = random_records.any_face(rng, random_records.random_panel(rng))
     for _ in range(rng.choice([0, 1, 1, 2, 3])):
         panel = random_records.at_a_limit(rng, panel)
     count = rng.choice([len(panel.lamellae)] * 8 + [0, 10, 2 ** 64 - 1])
@@ -183,10 +189,13 @@ def built_case(rng, number):
     places = list(panel.lamellae) + [(rng.randrange(256), rng.randrange(65_536)) for _ in range(9)]
     if count > 9:
         panel = panel._replace(lamellae=tuple(places[:10]))
+    depth, minute = rng.randint(0, peer.thickness_of(panel.lamellae)), rng.randint(0, 360)
     boards = [f"board({b.kind}, {b.thickness}, {b.joint})" for b in panel.boards]
     cladding = ["Unclad", "One", "Two"][len(boards)] + (f"({', '.join(boards)})" if boards else "")
     code = f"""fn case_{number}() {{
     let mut p = panel(Cladding::{cladding}, {panel.failure_time}, {count}, {[d for d, _ in places[:9]]}, {[t for _, t in places[:9]]});
+    p.version = {panel.version};
+    p.face = {panel.face};
     p.bond = {panel.bond};
     p.rate = {panel.rate};
     p.gap = {panel.gap};
@@ -195,9 +204,12 @@ def built_case(rng, number):
     print_panel(p, b"case {number}");
     print_record(p, b"case {number}");
     print_sum(p, b"case {number}");
+    print_section(p, {depth}, b"case {number}");
+    print_char(p, {minute}, b"case {number}");
 }}
 """
     lines = [line(panel, f"case {number}") for line in (make_cases.refusals_line, make_cases.space_line, make_cases.sum_line)]
+    lines += [make_cases.section_line(panel, depth, f"case {number}"), make_cases.char_line(panel, minute, f"case {number}")]
     return code, "".join(lines)
 
 
@@ -214,7 +226,8 @@ def compare_built(scratch, seed, count):
             file.write(support + "".join(code for code, _ in built) + f"fn main() {{\n{calls}}}\n")
         wrong = run_try(scratch, "test_panels", "", "".join(lines for _, lines in built))
         if wrong:
-            print(f"test_panels disagrees at\n{built[wrong[0] // 3][0]}{built[wrong[0] // 3][1]}{wrong[1][:3000]}")
+            code, lines = built[wrong[0] // BUILT]
+            print(f"test_panels disagrees at\n{code}{lines}{wrong[1][:3000]}")
             return False
         print(f"test_panels: {numbers[-1] + 1} agree", flush=True)
     return True

@@ -1,9 +1,10 @@
 """compare_cards.py REPOSITORY [--records N] [--seed S] [--jobs J]
 
 Calls the proved functions as C does (target/staticlib/libcard_c.a, by `rt staticlib card_c`, made a shared object by cc) on N records and
-compares with peer.py: the card, the number answered, and every byte of the lent space. The records are in turn within the limits, failing
-at any minute, at once or after a recovery, at a limit, damaged, and with one byte changed, each place of the record in its turn; the first
-are all lengths from none to 128 bytes. The space is the longest card's, the very card's, or one byte less.
+compares with peer.py: the card, the number answered, and every byte of the lent space. The records, of both versions and every face, are
+in turn within the limits, failing at any minute, at once or after a recovery, at a limit, damaged, and with one byte changed, each place
+of the record in its turn; the first are all lengths from none to 128 bytes. The space is the longest card's, the very card's, or one byte
+less.
 Ends with status 1 at a disagreement, and prints the record; and where something is missing, and says what.
 """
 import ctypes
@@ -16,33 +17,34 @@ from collections import Counter
 import needs
 import peer
 import random_records
+from random_records import any_face, any_record
 
 LONGEST = 232  # bytes of a card, at most
 LENGTHS = 129  # of records that are cut or filled up, from 0 on
-LONG = 53      # bytes of a record, at most
+LONG = 54      # bytes of a record, at most
 
 
 def changed(rng, place):
     """A record with one byte changed; places past its end count from its start again."""
-    record = bytearray(peer.encode(random_records.random_panel(rng)))
+    record = bytearray(any_record(rng, random_records.random_panel(rng)))
     record[place % len(record)] = rng.choice([0, 1, 2, 255, rng.randrange(256), record[place % len(record)] ^ 1])
     return bytes(record)
 
 
 def of_length(rng, length):
     """A record cut or filled up to a length, with that length in its length field."""
-    record = peer.encode(random_records.random_panel(rng))
+    record = any_record(rng, random_records.random_panel(rng))
     return random_records.with_length((record + rng.randbytes(length))[:length])[:length]
 
 
 KINDS = (
-    lambda rng, number: peer.encode(random_records.random_panel(rng)),
-    lambda rng, number: peer.encode(random_records.failing_about(rng)),
-    lambda rng, number: peer.encode(random_records.at_a_limit(rng, random_records.random_panel(rng))),
+    lambda rng, number: any_record(rng, random_records.random_panel(rng)),
+    lambda rng, number: any_record(rng, random_records.failing_about(rng)),
+    lambda rng, number: peer.encode(random_records.at_a_limit(rng, any_face(rng, random_records.random_panel(rng)))),
     lambda rng, number: changed(rng, number // len(KINDS) % LONG),
-    lambda rng, number: peer.encode(random_records.failing_at_once(rng)),
-    lambda rng, number: random_records.damaged(rng, peer.encode(random_records.random_panel(rng))),
-    lambda rng, number: peer.encode(random_records.recovering(rng)),
+    lambda rng, number: any_record(rng, random_records.failing_at_once(rng)),
+    lambda rng, number: random_records.damaged(rng, any_record(rng, random_records.random_panel(rng))),
+    lambda rng, number: any_record(rng, random_records.recovering(rng)),
     lambda rng, number: random_records.random_record(rng),
 )
 

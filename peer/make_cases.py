@@ -7,7 +7,7 @@ import os
 import needs
 import peer
 import programs
-from peer import Board, Panel
+from peer import EACH_ALONE, FIRST_FACE, LAST_FACE, Board, Panel
 from random_records import greatest_moment
 
 A, F, H, O, P = b"AFHOP"
@@ -16,7 +16,7 @@ ACROSS, ALONG = 0, 1
 # ---------------------------------------------------------------- Panels
 
 # The document's panel G: 30 along, 40 across, 30 along (mm).
-G = Panel(bond=0, rate=65, gap=0, strength=240, moment=3_000, failure_time=0, boards=(),
+G = Panel(version=1, face=0, bond=0, rate=65, gap=0, strength=240, moment=3_000, failure_time=0, boards=(),
           lamellae=((ALONG, 300), (ACROSS, 400), (ALONG, 300)))
 # Its panel that recovers: 10 along, 60 across, 60 along.
 RECOVERS = G._replace(moment=15_000, lamellae=((ALONG, 100), (ACROSS, 600), (ALONG, 600)))
@@ -24,9 +24,16 @@ RECOVERS = G._replace(moment=15_000, lamellae=((ALONG, 100), (ACROSS, 600), (ALO
 TURNED = RECOVERS._replace(lamellae=RECOVERS.lamellae[::-1])
 # 400 mm, all along: it carries more than the greatest moment allowed.
 THICK = G._replace(strength=400, moment=1_000_000, lamellae=((ALONG, 500),) * 8)
-# The shortest and the longest record.
+# 20 along, 30 across, 40 along: its lesser R is that of the fire on the last face, its lesser EI that of the fire on the first.
+WALL = G._replace(moment=5_000, lamellae=((ALONG, 200), (ACROSS, 300), (ALONG, 400)))
+# The shortest and the longest record of version 1; version 2 has a byte more.
 SHORTEST = G._replace(moment=100, lamellae=((ALONG, 100),))
 LONGEST = G._replace(boards=(Board(A, 125, 100), Board(H, 150, 95)), lamellae=((ALONG, 200), (ACROSS, 300)) * 4 + ((ALONG, 200),))
+
+
+def faced(panel, face):
+    """The panel in record version 2, with a face."""
+    return panel._replace(version=2, face=face)
 
 
 def with_first_lamella(panel, direction, thickness):
@@ -52,7 +59,9 @@ def two(outer, inner, **more):
 
 # ---------------------------------------------------------------- Bytes
 
+# In version 1; in version 2 the face is at 3 and what follows one place further.
 VERSION, BOND, RATE, GAP, STRENGTH, MOMENT, BOARDS, GIVEN_TIME, FIRST_BOARD = 2, 3, 4, 5, 6, 8, 12, 13, 17
+FACE = 3
 
 
 def with_length(record):
@@ -64,6 +73,7 @@ def patched(record, at, *new):
 
 
 g = peer.encode(G)
+g_each = peer.encode(faced(G, EACH_ALONE))
 board_record = peer.encode(one())
 lamella_count_at = 17  # in a record without boards
 
@@ -172,9 +182,11 @@ def length_cases():
         yield with_length(g)[:length], f"cut to {length} bytes"
     yield with_length(peer.encode(SHORTEST)[:20]), "cut to 20 bytes, length field 20"
     yield peer.encode(SHORTEST), "21 bytes"
+    yield with_length(peer.encode(SHORTEST) + b"\0"), "22 bytes, version 1"
     yield peer.encode(LONGEST), "53 bytes"
     yield peer.encode(LONGEST) + b"\0", "54 bytes, length field 53"
     yield with_length(peer.encode(LONGEST) + b"\0"), "54 bytes, length field 54"
+    yield with_length(peer.encode(LONGEST) + b"\0\0"), "55 bytes, length field 55"
     yield g[:-1], "one byte short, length field of the whole"
     yield with_length(g[:-1]), "one byte short, length field right"
     yield g + b"\0", "one byte more, length field of the record"
@@ -186,8 +198,9 @@ def length_cases():
     yield patched(g, 0, 0, 0), "length field 0"
     yield bytes([0, 21]) + bytes(19), "zeros behind the length"
     yield bytes([255] * 30), "thirty bytes of 255"
-    for version in (0, 2, 255):
+    for version in (0, 3, 255):
         yield patched(g, VERSION, version), f"version {version}"
+    yield patched(g, VERSION, 2), "version 2 without its face byte"
     yield from board_count_cases()
     yield from lamella_count_cases()
 
@@ -222,21 +235,24 @@ def lamella_count_cases():
 def reading_cases():
     """(panel, text): panels on which the document can be read two ways; for the record all are accepted."""
     thin = ((ALONG, 100), (ACROSS, 300), (ALONG, 300))
-    yield Panel(0, 100, 1, 240, 2_799, 0, (Board(H, 150, 1),), ((ACROSS, 145), (ALONG, 400), (ACROSS, 104))), "layer step rounded as a whole"
-    yield Panel(1, 65, 0, 240, 3, 0, (Board(H, 150, 80), Board(A, 180, 80)), ((ACROSS, 162), (ALONG, 144), (ACROSS, 120))), "two roundings in a layer"
-    yield Panel(1, 50, 0, 400, 0, 0, (Board(H, 150, 1),), ((ALONG, 400), (ACROSS, 100))), "coefficient 1, rounded twice"
-    yield Panel(1, 80, 0, 240, 500, 41_000, (Board(F, 125, 100),), ((ALONG, 124),) + thin[1:]), "bond line reached as the board fails"
-    yield Panel(1, 80, 0, 240, 500, 71_000, (Board(F, 125, 100),), ((ALONG, 310),) + thin[1:]), "25 mm charred before the board fails"
-    yield Panel(0, 65, 0, 240, 500, 11_200, (Board(F, 90, 100),), ((ALONG, 600),)), "F fails as charring starts"
-    yield Panel(1, 65, 0, 240, 500, 0, (Board(A, 125, 100),), thin), "bond line before the first run ends"
-    yield Panel(0, 100, 1, 240, 0, 360_000, (Board(F, 90, 100),), ((ALONG, 100),)), "charred through before the board fails"
+    yield Panel(1, 0, 0, 100, 1, 240, 2_799, 0, (Board(H, 150, 1),), ((ACROSS, 145), (ALONG, 400), (ACROSS, 104))), "layer step rounded as a whole"
+    yield Panel(1, 0, 1, 65, 0, 240, 3, 0, (Board(H, 150, 80), Board(A, 180, 80)), ((ACROSS, 162), (ALONG, 144), (ACROSS, 120))), "two roundings in a layer"
+    yield Panel(1, 0, 1, 50, 0, 400, 0, 0, (Board(H, 150, 1),), ((ALONG, 400), (ACROSS, 100))), "coefficient 1, rounded twice"
+    yield Panel(1, 0, 1, 80, 0, 240, 500, 41_000, (Board(F, 125, 100),), ((ALONG, 124),) + thin[1:]), "bond line reached as the board fails"
+    yield Panel(1, 0, 1, 80, 0, 240, 500, 71_000, (Board(F, 125, 100),), ((ALONG, 310),) + thin[1:]), "25 mm charred before the board fails"
+    yield Panel(1, 0, 0, 65, 0, 240, 500, 11_200, (Board(F, 90, 100),), ((ALONG, 600),)), "F fails as charring starts"
+    yield Panel(1, 0, 1, 65, 0, 240, 500, 0, (Board(A, 125, 100),), thin), "bond line before the first run ends"
+    yield Panel(1, 0, 0, 100, 1, 240, 0, 360_000, (Board(F, 90, 100),), ((ALONG, 100),)), "charred through before the board fails"
 
 
 def order_cases():
     """(record, text): two faults, of which the line further up is said."""
     no_fault = one(F, failure_time=21_000)
-    yield patched(g[:-1], VERSION, 2), "length and version"
-    yield patched(g, VERSION, 2, 2), "version and bond"
+    yield patched(g[:-1], VERSION, 3), "length and version"
+    yield patched(g, VERSION, 3, 2), "version and bond"
+    yield patched(g_each[:-1], FACE, 3), "length and face"
+    yield patched(g_each, VERSION, 3, 3), "version and face"
+    yield patched(g_each, FACE, 3, 2), "face and bond"
     yield patched(g, BOND, 2, 49), "bond and rate"
     yield patched(g, RATE, 49, 2), "rate and gap"
     yield peer.encode(G._replace(rate=101, strength=0)), "rate and strength"
@@ -259,10 +275,67 @@ def order_cases():
     yield peer.encode(one(O, 401, failure_time=1)), "O too thick, given 1"
 
 
+def version_cases():
+    """(record, text): version 2, whose records are a byte longer."""
+    for face in (0, 1, 2, 3, 255):
+        yield patched(g_each, FACE, face), f"G, version 2, face {face}"
+    for version in (0, 1, 3):
+        yield patched(g_each, VERSION, version), f"version {version} with a face byte"
+    shortest, longest = (peer.encode(faced(panel, EACH_ALONE)) for panel in (SHORTEST, LONGEST))
+    yield with_length(shortest[:21]), "21 bytes, version 2"
+    yield shortest, "22 bytes, version 2"
+    yield with_length(longest[:53]), "53 bytes, version 2"
+    yield longest, "54 bytes, version 2"
+    yield longest + b"\0", "55 bytes, version 2, length field 54"
+    yield with_length(longest + b"\0"), "55 bytes, version 2, length field 55"
+    yield with_length(g_each[:-1]), "version 2, one byte short, length field right"
+    yield with_length(g_each + b"\0"), "version 2, one byte more, length field right"
+    for length in (25, 26):
+        yield with_length(patched(g_each, BOARDS + 1, 1)[:length]), f"version 2, one board counted in {length} bytes"
+    for count in (0, 2, 4):
+        yield patched(g_each, lamella_count_at + 1, count), f"version 2, {count} lamellae counted, three there"
+    for panel, text in (
+            (G._replace(bond=2), "bond 2"), (G._replace(rate=101), "rate 101"), (G._replace(strength=401), "strength 401"),
+            (two(F, A), "F over A"), (one(joint=0), "coefficient 0"), (G._replace(failure_time=1), "given 1"),
+            (with_first_lamella(G, 2, 300), "direction 2"), (G._replace(lamellae=((ACROSS, 300),) * 3), "none along"),
+            (TURNED._replace(moment=greatest_moment(TURNED) + 1), "depth 0 fails")):
+        yield peer.encode(faced(panel, LAST_FACE)), f"face 1, {text}"
+
+
+def wall_panels():
+    """(panel, text): panels that lie otherwise to each fire, clad and unclad, with bonds that fall and that hold; and G, which does not."""
+    yield WALL, "wall"
+    yield falls(WALL, 80), "wall falling"
+    yield behind(WALL, (A, 125)), "wall behind A"
+    yield falls(behind(WALL, (A, 125)), 65), "wall behind A, falling"
+    yield falls(behind(WALL, (F, 125), failure_time=41_000), 80), "wall behind F, falling"
+    yield behind(WALL, (H, 125), (A, 95)), "wall behind H over A"
+    yield falls(behind(WALL, (O, 200)), 65), "wall behind O, falling"
+    yield RECOVERS, "the panel that recovers"
+    yield (behind(G._replace(moment=8_000, lamellae=((ALONG, 500), (ACROSS, 200))), (F, 125), failure_time=41_000),
+           "two lamellae behind F, lesser R from the first face, lesser EI from the last")
+    yield thickening(), "nine lamellae behind two F, falling"
+    yield G, "G, the same from both faces"
+
+
+def thickening():
+    """Nine lamellae, along and across by turns, of 10 to 50 mm; its record is as long as can be."""
+    lamellae = tuple(((i + 1) % 2, 100 + 50 * i) for i in range(9))
+    return falls(behind(G._replace(lamellae=lamellae), (F, 125), (F, 125), failure_time=60_000), 65)
+
+
+def wall_records(*faces):
+    """(record, text)"""
+    for panel, text in wall_panels():
+        for face in faces:
+            yield peer.encode(faced(panel, face)), f"{text}, face {face}"
+
+
 def record_cases():
     for panel, text in panel_cases():
         yield peer.encode(panel), text
     yield from length_cases()
+    yield from version_cases()
     for panel, text in reading_cases():
         yield peer.encode(panel), text
     yield from order_cases()
@@ -275,6 +348,12 @@ def write_cases():
         record = peer.encode(panel)
         for space in (0, len(record) - 1, len(record), len(record) + 1, 64):
             yield space, record, f"{name}, {len(record)} bytes into {space}"
+    for name, panel, spaces in (("the shortest", faced(SHORTEST, FIRST_FACE), (21, 22)),
+                                ("the longest", faced(LONGEST, EACH_ALONE), (53, 54, 64)),
+                                ("the wall behind F", faced(behind(WALL, (F, 125), failure_time=41_000), LAST_FACE), (31, 32))):
+        record = peer.encode(panel)
+        for space in spaces:
+            yield space, record, f"{name} of version 2, face {panel.face}, {len(record)} bytes into {space}"
     for space in (0, 20, 21, 64):
         yield space, b"", f"a blank panel into {space}"
     yield 64, peer.encode(G._replace(moment=43_057)), "a refused record, so a blank panel"
@@ -294,6 +373,10 @@ def section_cases():
     turned = TURNED._replace(moment=greatest_moment(TURNED))
     for depth in (0, 1, 570, 571, 1_200, 1_270, 1_271):
         yield depth, peer.encode(turned), f"that panel turned, at {depth:,}"
+    for depth in (0, 570, 571, 1_270, 1_271):
+        yield depth, peer.encode(faced(RECOVERS, LAST_FACE)), f"the panel that recovers, face 1, at {depth:,}"
+    for depth in (70, 71, 1_270):
+        yield depth, peer.encode(faced(RECOVERS, EACH_ALONE)), f"the panel that recovers, face 2, at {depth:,}"
     for depth in (0, 700, 970, 971, 1000):
         yield depth, peer.encode(G._replace(moment=0)), f"G, moment 0, at {depth:,}"
     for depth in (0, 500, 2_000, 3_970, 3_971, 4_000, 4_001):
@@ -338,6 +421,16 @@ def build_cases():
             (RECOVERS, TURNED, "turned round")):
         yield pair(a, b, text)
         yield pair(b, a, f"{text}, the other order")
+    first, last, each = (faced(RECOVERS, face) for face in (FIRST_FACE, LAST_FACE, EACH_ALONE))
+    for a, b, text in (
+            (RECOVERS, first, "versions 1 and 2, face 0"),
+            (faced(LONGEST, FIRST_FACE)._replace(moment=0), LONGEST, "versions 2 and 1, other moment"),
+            (last, last._replace(strength=400, moment=0), "face 1 twice, other strength and moment"),
+            (each, each._replace(moment=0), "face 2 twice, other moment"),
+            (RECOVERS, last, "version 1 and face 1"), (first, each, "faces 0 and 2"), (last, each, "faces 1 and 2"),
+            (faced(TURNED, FIRST_FACE), last, "turned round and the face other, so the same fire"),
+            (faced(G, FIRST_FACE), faced(G, LAST_FACE), "the same from both faces, the face other")):
+        yield pair(a, b, text)
     yield b"", g, "a blank panel first"
     yield g, b"", "a blank panel second"
     yield b"", b"", "two blank panels"
@@ -472,6 +565,8 @@ def sum_cases():
     """(record, text)"""
     for panel, text in layer_panel_cases():
         yield peer.encode(panel), text
+    yield peer.encode(faced(G, FIRST_FACE)), "G, version 2, face 0"
+    yield from wall_records(LAST_FACE, EACH_ALONE)
     yield b"", "no bytes, so a blank panel"
 
 
@@ -597,9 +692,23 @@ def char_panel_cases():
     yield from printed_char_cases()
 
 
+def wall_char_cases():
+    """(panel, minutes, text): around the bond lines of the two fires and the end of the boards; of face 2 the first face's is told."""
+    met = next(panel for panel, text in reading_cases() if text == "bond line reached as the board fails")
+    turned = met._replace(lamellae=met.lamellae[::-1])
+    for face in (LAST_FACE, EACH_ALONE):
+        yield faced(falls(WALL, 80), face), (24, 25, 49, 50, 90), f"wall falling, face {face}"
+        yield faced(falls(behind(WALL, (A, 125)), 65), face), (22, 40, 60), f"wall behind A, falling, face {face}"
+        yield faced(falls(behind(WALL, (O, 200)), 65), face), (38, 60), f"wall behind O, falling, face {face}"
+        yield faced(thickening(), face), (60, 90), f"nine lamellae behind two F, falling, face {face}"
+        yield faced(turned, face), (41, 60), f"bond line reached as the board fails, turned, face {face}"
+    yield faced(WALL, LAST_FACE), (60,), "wall, face 1"
+    yield faced(WALL, EACH_ALONE), (361,), "wall, face 2"
+
+
 def char_cases():
     """(minute, record, text)"""
-    for panel, minutes, text in char_panel_cases():
+    for panel, minutes, text in list(char_panel_cases()) + list(wall_char_cases()):
         for minute in minutes:
             yield minute, peer.encode(panel), text
     for minute in (0, 361):
@@ -619,6 +728,10 @@ def table_cases():
     yield 400, peer.encode(THICK), "400 mm"
     yield 400, peer.encode(falls(LONGEST, 50)), "the longest record"
     yield 361, peer.encode(behind(THICK, (F, 250), (F, 250), failure_time=360_000)), "400 mm, two F 25.0, t_f 360"
+    for face in (LAST_FACE, EACH_ALONE):
+        yield 400, peer.encode(faced(falls(WALL, 80), face)), f"wall falling, face {face}"
+    yield 361, peer.encode(faced(thickening(), LAST_FACE)), "nine lamellae behind two F, falling, face 1"
+    yield 360, peer.encode(faced(WALL, EACH_ALONE)), "wall, face 2, into 360"
     for space in (0, 400):
         yield space, b"", f"a blank panel into {space}"
 
@@ -630,7 +743,7 @@ LASTING = THICK._replace(rate=50, strength=240, moment=0)
 # Fails in the tenths 68 to 70 alone, that is after minute 6 and before minute 7.
 BETWEEN = RECOVERS._replace(rate=70, moment=13_800)
 # A record whose failure time is a whole minute.
-WHOLE = Panel(0, 80, 0, 240, 500, 61_000, (Board(F, 125, 100),), ((ALONG, 600),))
+WHOLE = Panel(1, 0, 0, 80, 0, 240, 500, 61_000, (Board(F, 125, 100),), ((ALONG, 600),))
 LONG_CARD = falls(G._replace(moment=0, lamellae=((ALONG, 100),) + ((ALONG, 250),) * 8), 100)
 SHORT_CARD = behind(SHORTEST._replace(moment=460), (F, 250), (F, 250), failure_time=360_000)
 
@@ -677,9 +790,12 @@ def unstarred_cases():
 
 
 def refused_cases():
-    """(record, text): each of lines 1 to 13, and bytes that are no record."""
+    """(record, text): each of lines 1 to 13 and 16, and bytes that are no record."""
     yield b"", "no bytes"
-    yield patched(g, VERSION, 2), "version 2"
+    yield patched(g, VERSION, 3), "version 3"
+    yield patched(g_each, FACE, 3), "face 3"
+    yield patched(g_each, VERSION, 0, 3), "version 0, face 3"
+    yield patched(g_each, FACE, 2, 2), "face 2, bond 2"
     yield patched(g, BOND, 2), "bond 2"
     yield patched(g, RATE, 101), "rate 101"
     yield peer.encode(G._replace(strength=401)), "strength 401"
@@ -692,7 +808,9 @@ def refused_cases():
     yield peer.encode(G._replace(lamellae=((ACROSS, 300),))), "none along"
     yield peer.encode(G._replace(moment=43_057)), "G, moment 43,057"
     yield g[:20], "cut to 20 bytes"
-    yield with_length(peer.encode(LONGEST) + b"\0"), "54 bytes"
+    yield with_length(peer.encode(LONGEST) + b"\0"), "54 bytes, version 1"
+    yield with_length(peer.encode(faced(LONGEST, FIRST_FACE)) + b"\0"), "55 bytes, version 2"
+    yield with_length(peer.encode(faced(SHORTEST, FIRST_FACE))[:21]), "21 bytes, version 2"
     yield g + bytes(33), "60 bytes, G before zeros"
     yield with_length(g + bytes(101)), "128 bytes, length field right"
     counted = {text: record for record, text in length_cases()}
@@ -713,6 +831,26 @@ def space_cases():
     for space in (0, 10, 11):
         yield peer.encode(G._replace(moment=43_057)), space, f"G, moment 43,057, refused before the space of {space} is looked at"
     yield b"", 0, "no bytes, no space"
+    for space in (104, 105):
+        yield g_each, space, f"G, face 2, 105 bytes into {space}"
+
+
+def both_versions():
+    """(record, text): the same panel in both versions, whose cards differ in the first line alone."""
+    for panel, text in ((G, "G"), (behind(WALL, (A, 125)), "wall behind A")):
+        for version in (1, 2):
+            yield peer.encode(panel._replace(version=version)), f"{text} in version {version}"
+
+
+def face_cases():
+    """(record, text)"""
+    yield from both_versions()
+    yield from wall_records(EACH_ALONE)
+    for panel, text in wall_panels():
+        if panel.bond == 1 or panel == RECOVERS:
+            yield peer.encode(faced(panel, LAST_FACE)), f"{text}, face 1"
+    for panel, text in ((LASTING, "400 mm, rate 50, moment 0"), (G._replace(moment=43_056), "G, moment 43,056")):
+        yield peer.encode(faced(panel, EACH_ALONE)), f"{text}, face 2"
 
 
 def card_cases():
@@ -722,6 +860,8 @@ def card_cases():
     for panel, text in reading_cases():
         yield peer.encode(panel), 200, text
     yield peer.encode(LONGEST), 200, "the longest record"
+    for record, text in face_cases():
+        yield record, 200, text
     for record, text in list(unstarred_cases()) + list(refused_cases()):
         yield record, 200, text
     yield from space_cases()
@@ -729,7 +869,7 @@ def card_cases():
 
 def refusal_cases():
     """(number, space, text)"""
-    for number in list(range(16)) + [99, 100, 255]:
+    for number in list(range(17)) + [99, 100, 255]:
         length = len(peer.refusal_text(number))
         yield number, length, f"number {number}, exact space"
     for number in (1, 9, 10, 15, 0, 255):
@@ -744,6 +884,8 @@ def panel_record_cases():
         yield peer.encode(panel), text
     for panel, text in reading_cases():
         yield peer.encode(panel), text
+    yield peer.encode(faced(RECOVERS, LAST_FACE)), "the panel that recovers, face 1"
+    yield peer.encode(faced(behind(WALL, (A, 125)), EACH_ALONE)), "wall behind A, face 2"
     yield peer.encode(G._replace(moment=43_057)), "a refused record, so a blank panel"
     yield b"", "no bytes, so a blank panel"
 
@@ -760,6 +902,10 @@ def reserve_cases():
         yield peer.encode(RECOVERS), wanted, f"the panel that recovers, wanted {wanted}"
     for wanted in (83, 84):
         yield peer.encode(WHOLE), wanted, f"fails at minute 83 exactly, wanted {wanted}"
+    wall = peer.encode(faced(behind(WALL, (A, 125)), EACH_ALONE))
+    for wanted in (46, 78, 361):
+        yield wall, wanted, f"wall behind A, face 2, R 78 and 46, wanted {wanted}"
+    yield peer.encode(faced(RECOVERS, LAST_FACE)), 60, "the panel that recovers, face 1, wanted 60"
     for wanted in (0, 360, 361):
         yield b"", wanted, f"a blank panel, wanted {wanted}"
 
@@ -830,6 +976,46 @@ def space_line(panel, text):
     return f"{peer.write(panel, filled)[1].hex()} {text}\n"
 
 
+def section_line(panel, depth, text):
+    return f"{'refused' if peer.panel_refusal(panel) else ' '.join(map(str, peer.section(panel, depth)[:5]))} {text}\n"
+
+
+def char_line(panel, minute, text):
+    return f"{'refused' if peer.panel_refusal(panel) else peer.micrometres(panel, minute)} {text}\n"
+
+
+def version_lines():
+    loose = G._replace(bond=255)
+    for panel, version, face, text in (
+            (G, 0, 0, "version 0"), (G, 3, 0, "version 3"), (G, 0, 3, "version 0, face 3"), (G, 1, 1, "version 1, face 1"),
+            (G, 1, 2, "version 1, face 2"), (G, 1, 3, "version 1, face 3"), (G, 2, 0, "version 2, face 0"),
+            (G, 2, 1, "version 2, face 1"), (G, 2, 2, "version 2, face 2"), (G, 2, 3, "version 2, face 3"),
+            (G, 2, 255, "version 2, face 255"), (loose, 3, 0, "version 3, bond 255"), (loose, 1, 1, "version 1, face 1, bond 255"),
+            (loose, 2, 2, "version 2, face 2, bond 255")):
+        yield refusals_line(panel._replace(version=version, face=face), text)
+
+
+def fire_lines():
+    wall = WALL._replace(bond=1, moment=3_000)
+    for panel in (faced(wall, LAST_FACE), faced(wall, EACH_ALONE)):
+        yield refusals_line(panel, "wall, unused places full")
+        for places in ("full", "0"):
+            yield space_line(panel, f"record of the wall with unused places {places}")
+        for places in ("full", "0"):
+            yield sum_line(panel, f"EI sum of the wall with unused places {places}")
+        for places in ("full", "0"):
+            yield section_line(panel, 250, f"section of the wall with unused places {places}")
+        for places in ("full", "0"):
+            yield char_line(panel, 60, f"char of the wall with unused places {places}")
+        yield f"{programs.compared(panel, panel)} walls, unused places full and 0\n"
+    for a, b, text in (
+            (wall, faced(wall, FIRST_FACE), "versions 1 and 2, face 0"), (wall, faced(wall, LAST_FACE), "version 1 and face 1"),
+            (faced(wall, LAST_FACE), faced(wall, EACH_ALONE), "faces 1 and 2"),
+            (wall._replace(face=1), wall._replace(version=3), "the first meets 16, the second 2"),
+            (wall._replace(version=0), faced(wall, 3), "the first meets 2, the second 16")):
+        yield f"{programs.compared(a, b)} {text}\n"
+
+
 def built_lines():
     for panel, text in built_panels():
         yield refusals_line(panel, text)
@@ -846,7 +1032,10 @@ def built_lines():
             (G, loose, "the second alone meets 3"), (other, G, "other strength, moment and unused places"),
             (other._replace(bond=1), G, "other bond too")):
         yield f"{programs.compared(a, b)} {text}\n"
-    greatest = Panel(255, 255, 255, 65_535, 2 ** 32 - 1, 2 ** 32 - 1, (Board(255, 65_535, 255),) * 2, ((255, 65_535),) * 10)
+    yield from version_lines()
+    yield from fire_lines()
+    greatest = Panel(255, 255, 255, 255, 255, 65_535, 2 ** 32 - 1, 2 ** 32 - 1, (Board(255, 65_535, 255),) * 2, ((255, 65_535),) * 10)
+    yield refusals_line(faced(greatest, EACH_ALONE), "all past the face at their greatest")
     yield refusals_line(greatest, "all fields at their greatest")
     yield space_line(greatest, "space after all fields at their greatest")
     a, f = Board(A, 125, 100), Board(F, 125, 100)
@@ -868,7 +1057,10 @@ CASES = {"read": record_cases, "write": write_cases, "build": build_cases, "sect
          "loadgrade": grade_panel_cases, "eigrade": grade_panel_cases, "reigrade": grade_panel_cases}
 
 # the program that prints a card: what it reads
-CARD_INPUTS = {"card": g, "card_empty": b"", "card_long": peer.encode(LONGEST) + bytes(1), "card_refused": peer.encode(G._replace(moment=43_057))}
+CARD_INPUTS = {"card": g, "card_empty": b"", "card_long": peer.encode(faced(LONGEST, FIRST_FACE)) + bytes(1),
+               "card_refused": peer.encode(G._replace(moment=43_057)),
+               "card_last_face": peer.encode(faced(behind(WALL, (A, 125)), LAST_FACE)),
+               "card_each_face": peer.encode(faced(behind(WALL, (A, 125)), EACH_ALONE)), "card_face_3": patched(g_each, FACE, 3)}
 
 
 def store(repository, name, file, data):

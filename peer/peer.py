@@ -15,6 +15,7 @@ ALONG = 1
 TYPES = b"AFHOP"
 TYPE_F = ord("F")
 WOOD_TYPES = b"OP"  # OSB and particle board
+FIRST_FACE, LAST_FACE, EACH_ALONE = 0, 1, 2
 
 
 class Board(NamedTuple):
@@ -24,6 +25,8 @@ class Board(NamedTuple):
 
 
 class Panel(NamedTuple):
+    version: int       # of its record, in which it is written
+    face: int          # where the fire is: FIRST_FACE, LAST_FACE, or EACH_ALONE for a fire on each face alone
     bond: int          # 0 holds, 1 falls
     rate: int          # hundredths of mm/min
     gap: int           # 0 filled or at most 2 mm, 1 wider
@@ -31,13 +34,14 @@ class Panel(NamedTuple):
     moment: int        # N.m per metre of width
     failure_time: int  # the given one, thousandths of a minute
     boards: tuple      # none, one or two, outer first
-    lamellae: tuple    # pairs (direction, thickness), from the exposed face
+    lamellae: tuple    # pairs (direction, thickness), from the first face
 
 
 # What stands beside a refusal: every number 0, no board, no lamella.
-BLANK = Panel(0, 0, 0, 0, 0, 0, (), ())
+BLANK = Panel(0, 0, 0, 0, 0, 0, 0, 0, (), ())
 
-HEAD = 17  # bytes before the first board
+VERSION_AT = 2
+HEAD = 14  # bytes before the first board, from the bond on
 
 
 def number(data, at, width):
@@ -45,8 +49,13 @@ def number(data, at, width):
     return int.from_bytes(data[at:at + width], "big")
 
 
-def record_length(boards, lamellae):
-    return 18 + 4 * boards + 3 * lamellae
+def face_bytes(version):
+    """Record version 2 has a face byte after the version; version 1 has none."""
+    return 1 if version == 2 else 0
+
+
+def record_length(version, boards, lamellae):
+    return 18 + face_bytes(version) + 4 * boards + 3 * lamellae
 
 
 def board_at(data, at):
@@ -58,10 +67,11 @@ def lamella_at(data, at):
 
 
 def encode(panel):
-    """The record of a panel whose numbers fit their fields."""
+    """The record of a panel whose numbers fit their fields, in the panel's version."""
     boards, lamellae = panel.boards, panel.lamellae
-    out = record_length(len(boards), len(lamellae)).to_bytes(2, "big")
-    out += bytes([1, panel.bond, panel.rate, panel.gap])
+    out = record_length(panel.version, len(boards), len(lamellae)).to_bytes(2, "big")
+    out += bytes([panel.version] + [panel.face] * face_bytes(panel.version))
+    out += bytes([panel.bond, panel.rate, panel.gap])
     out += panel.strength.to_bytes(2, "big") + panel.moment.to_bytes(4, "big")
     out += bytes([len(boards)]) + panel.failure_time.to_bytes(4, "big")
     for board in boards:
@@ -73,12 +83,20 @@ def encode(panel):
 
 
 def same_build(a, b):
-    """Boards and lamellae agree, in order, and bond, rate, gap and failure time: all but strength and moment."""
-    return a._replace(strength=0, moment=0) == b._replace(strength=0, moment=0)
+    """Boards and lamellae agree, in order, and face, bond, rate, gap and failure time: all but version, strength and moment."""
+    return a._replace(version=0, strength=0, moment=0) == b._replace(version=0, strength=0, moment=0)
 
 
 # ---------------------------------------------------------------- Where a record is turned back
-# Each line is a function that says whether its cause fits; the numbers are the document's.
+# Each line is a function that says whether its cause fits; the numbers are the documents'.
+
+def bad_version(version):  # 2
+    return version not in (1, 2)
+
+
+def bad_face(version, face):  # 16
+    return face > 2 or version == 1 and face != FIRST_FACE
+
 
 def bad_switches(bond, gap):  # 3
     return bond > 1 or gap > 1
@@ -126,7 +144,11 @@ def none_along(lamellae):  # 12
 
 
 def panel_refusal(panel):
-    """The first of lines 3 to 13 that fits the panel, or 0. Lines 6 and 10 speak of counts only: a panel has no length."""
+    """The first of lines 2, 16 and 3 to 13 that fits the panel, or 0. Lines 6 and 10 speak of counts only: a panel has no length."""
+    if bad_version(panel.version):
+        return 2
+    if bad_face(panel.version, panel.face):
+        return 16
     if bad_switches(panel.bond, panel.gap):
         return 3
     if bad_rate(panel.rate):
@@ -153,24 +175,30 @@ def panel_refusal(panel):
 
 
 def decode(data):
-    """(refusal, panel): refusal 0 and the panel of the record, or the first of lines 1 to 13 that fits and BLANK."""
-    if not 21 <= len(data) <= 53 or number(data, 0, 2) != len(data):
+    """(refusal, panel): refusal 0 and the panel of the record, or the first of lines 1, 2, 16 and 3 to 13 that fits and BLANK."""
+    if not 21 <= len(data) <= 54 or number(data, 0, 2) != len(data):
         return 1, BLANK
-    if data[2] != 1:
+    version = data[VERSION_AT]
+    if bad_version(version):
         return 2, BLANK
-    bond, rate, gap = data[3], data[4], data[5]
-    strength, moment = number(data, 6, 2), number(data, 8, 4)
+    more = face_bytes(version)
+    face = data[VERSION_AT + 1] if more else FIRST_FACE
+    if bad_face(version, face):
+        return 16, BLANK
+    body = data[VERSION_AT + 1 + more:]
+    bond, rate, gap = body[0], body[1], body[2]
+    strength, moment = number(body, 3, 2), number(body, 5, 4)
     if bad_switches(bond, gap):
         return 3, BLANK
     if bad_rate(rate):
         return 4, BLANK
     if bad_load(strength, moment):
         return 5, BLANK
-    board_count, failure_time = data[12], number(data, 13, 4)
-    if board_count > 2 or len(data) < 21 + 4 * board_count:
+    board_count, failure_time = body[9], number(body, 10, 4)
+    if board_count > 2 or len(data) < 21 + more + 4 * board_count:
         return 6, BLANK
-    boards = tuple(board_at(data, HEAD + 4 * i) for i in range(board_count))
-    panel = Panel(bond, rate, gap, strength, moment, failure_time, boards, ())
+    boards = tuple(board_at(body, HEAD + 4 * i) for i in range(board_count))
+    panel = Panel(version, face, bond, rate, gap, strength, moment, failure_time, boards, ())
     if bad_types(boards):
         return 7, BLANK
     if bad_boards(boards):
@@ -178,10 +206,10 @@ def decode(data):
     if bad_failure_time(panel):
         return 9, BLANK
     count_at = HEAD + 4 * board_count
-    count = data[count_at]
-    if bad_count(count) or len(data) != record_length(board_count, count):
+    count = body[count_at]
+    if bad_count(count) or len(data) != record_length(version, board_count, count):
         return 10, BLANK
-    part = data[count_at + 1:]
+    part = body[count_at + 1:]
     panel = panel._replace(lamellae=tuple(lamella_at(part, 3 * i) for i in range(count)))
     if bad_lamellae(panel.lamellae):
         return 11, BLANK
@@ -201,6 +229,21 @@ def write(panel, space):
     if len(space) < len(record):
         return ("refused", 14), space
     return ("written", len(record)), record + space[len(record):]
+
+
+# ---------------------------------------------------------------- Fires
+# What speaks of one fire takes the panel with face 0 or 1. Of a panel with face 2 it takes the first face's: "the depth table, the CHAR
+# lines, the phase and the section at a depth are those of face 0". Its printed minutes look at both fires.
+
+def from_fire(panel):
+    """The lamellae from the exposed face on: turning reverses them, and nothing else; boards on the far face are no layer."""
+    return panel.lamellae[::-1] if panel.face == LAST_FACE else panel.lamellae
+
+
+def fires(panel):
+    """The panel in each of its fires."""
+    faces = (FIRST_FACE, LAST_FACE) if panel.face == EACH_ALONE else (panel.face,)
+    return [panel._replace(face=face) for face in faces]
 
 
 # ---------------------------------------------------------------- Charring
@@ -243,7 +286,8 @@ def bond_lines(panel):
     """The depths in mm, from the exposed face, at which lamellae meet; none where the bond holds."""
     if panel.bond == 0:
         return []
-    return [Fraction(thickness_of(panel.lamellae[:i]), 10) for i in range(1, len(panel.lamellae))]
+    lamellae = from_fire(panel)
+    return [Fraction(thickness_of(lamellae[:i]), 10) for i in range(1, len(lamellae))]
 
 
 def k2(panel):
@@ -365,7 +409,7 @@ def sums(parts):
 
 def section(panel, depth):
     """(N, P, Q, lo, hi, passes) at a depth in whole tenths of mm."""
-    n, p, q, lo, hi = sums(counted_parts(panel.lamellae, depth))
+    n, p, q, lo, hi = sums(counted_parts(from_fire(panel), depth))
     edge = max(p - 2 * n * lo, 2 * n * hi - p)
     carried = 120_000 * panel.moment * edge <= 23 * panel.strength * (4 * n * q - 3 * p ** 2)
     return n, p, q, lo, hi, n > 0 and carried
@@ -376,8 +420,8 @@ def depth_passes(panel, depth):
 
 
 def time_passes(panel, minute):
-    """At a time in minutes, whole or a fraction: every tenth from 0 to its effective depth, rounded up, passes."""
-    return all(depth_passes(panel, depth) for depth in range(effective_tenths(panel, minute) + 1))
+    """At a time in minutes, whole or a fraction: every tenth from 0 to its effective depth, rounded up, passes, in each fire."""
+    return all(depth_passes(fire, depth) for fire in fires(panel) for depth in range(effective_tenths(fire, minute) + 1))
 
 
 @cache
@@ -398,42 +442,58 @@ def last_time_at(panel, depth):
     return start + (end - start) * (depth - low) / (high - low)
 
 
+@cache
+def fire_failure(fire):
+    """When the effective depth leaves the last tenth before a failing one, in minutes, of one fire."""
+    return last_time_at(fire, Fraction(first_failing(fire) - 1, 10))
+
+
 def exact_failure(panel):
-    """When the effective depth leaves the last tenth before a failing one, in minutes; None where the panel passes through 360."""
-    failure = last_time_at(panel, Fraction(first_failing(panel) - 1, 10))
+    """The failure time in minutes, in the fire that fails the panel first; None where it passes through 360."""
+    failure = min(map(fire_failure, fires(panel)))
     return None if failure >= 360 else failure
 
 
-@cache
+def fire_minute(fire):
+    """R of one fire: its failure time's whole minutes, at most 360."""
+    return min(360, floor(fire_failure(fire)))
+
+
 def load_minute(panel):
-    """R of an accepted panel: the failure time's whole minutes, at most 360."""
-    failure = exact_failure(panel)
-    return 360 if failure is None else floor(failure)
+    """R of an accepted panel: the lesser of its fires."""
+    return min(map(fire_minute, fires(panel)))
 
 
-def scanned_minute(panel):
-    """R found by trying one whole minute after the other: the last before one fails, at most 360."""
+def scanned_minute(fire):
+    """R of one fire found by trying one whole minute after the other: the last before one fails, at most 360."""
     tried = -1
     for minute in range(361):
-        depth = effective_tenths(panel, minute)
-        if not all(depth_passes(panel, tenth) for tenth in range(tried + 1, depth + 1)):
+        depth = effective_tenths(fire, minute)
+        if not all(depth_passes(fire, tenth) for tenth in range(tried + 1, depth + 1)):
             return minute - 1
         tried = depth
     return 360
 
 
-def check_load_minute(panel):
-    """Holds R and the exact failure time of an accepted panel to the definition of a passing time."""
+def check_closeness(panel):
+    """Holds R and the exact failure time to the definition of a passing time."""
     r, failure = load_minute(panel), exact_failure(panel)
-    assert r == scanned_minute(panel), panel
     assert time_passes(panel, r), panel
     if failure is None:
         assert r == 360, panel
         return
     soon = Fraction(1, 10 ** 9)
-    assert effective_depth(panel, failure) * 10 == first_failing(panel) - 1, panel
     assert r <= failure < r + 1 and r < 360, panel
     assert time_passes(panel, failure) and not time_passes(panel, failure + soon) and not time_passes(panel, r + 1), panel
+
+
+def check_load_minute(panel):
+    """Holds R of an accepted panel to the definition: of each fire with its own load minute, and the printed one."""
+    for fire in fires(panel):
+        assert load_minute(fire) == scanned_minute(fire), fire
+        assert effective_depth(fire, fire_failure(fire)) * 10 == first_failing(fire) - 1, fire
+        check_closeness(fire)
+    check_closeness(panel)
 
 
 def reserve(panel, wanted):
@@ -518,14 +578,14 @@ def layer_time(t, before, joint):
 
 def basic_layers(panel):
     """(basic time, joint coefficient) of each layer, from the exposed side: protection, but for the last insulation."""
-    thicknesses = [thickness for _, thickness in panel.lamellae]
+    thicknesses = [thickness for _, thickness in from_fire(panel)]
     layers = [(entry(MATERIALS[board.kind] + "_protection", board.thickness), board.joint) for board in panel.boards]
     layers += [(entry("wood_protection", thickness), 100) for thickness in thicknesses[:-1]]
     return layers + [(entry("wood_insulation", thicknesses[-1]), 100)]
 
 
 def layer_times(panel):
-    """What each layer of an accepted panel gives, from the exposed side."""
+    """What each layer of an accepted panel gives, from the exposed side, in one fire."""
     times = []
     for t, joint in basic_layers(panel):
         times.append(layer_time(t, sum(times), joint))
@@ -533,7 +593,8 @@ def layer_times(panel):
 
 
 def ei_sum(panel):
-    return sum(layer_times(panel))
+    """The lesser of its fires."""
+    return min(sum(layer_times(fire)) for fire in fires(panel))
 
 
 def ei_minute(panel):
@@ -584,7 +645,7 @@ CARD_MINUTES = (30, 60, 90, 120)
 def card(panel):
     """The bytes of an accepted panel's card."""
     r, ei = load_minute(panel), ei_minute(panel)
-    lines = ["CARD 1"]
+    lines = [f"CARD {panel.version}"]
     lines += [f"CHAR {minute} {micrometres(panel, minute)} {effective_tenths(panel, minute)}" for minute in CARD_MINUTES]
     lines += [f"R {r} {grade(r)}", f"EI {ei} {grade(ei)}", f"REI {rei(r, ei)}"]
     return "".join(f"{line}\n" for line in lines).encode("ascii")

@@ -1,7 +1,7 @@
-"""Random panel records for comparing runs. The same seed gives the same records.
+"""Random panel records for comparing runs, of both versions and every face. The same seed gives the same records.
 
 Half are within the limits of documents 01 and 02, with weight on the limits' ends; the others have a field at or past a limit, or
-are damaged: cut short, made longer, one byte changed, or no record at all.
+are damaged: cut short, made longer, one byte changed, a face byte too many or too few, or no record at all.
 """
 import random
 from math import gcd
@@ -45,12 +45,29 @@ def greatest_moment(panel, depth=0):
 
 
 def random_panel(rng):
-    """A panel within the limits."""
-    panel = Panel(rng.randint(0, 1), end_or_between(rng, 50, 100), rng.randint(0, 1), end_or_between(rng, 1, 400), 0, 0,
+    """A panel within the limits, of version 1. What panels are drawn for is said of their fire on the first face; see `any_face`."""
+    panel = Panel(1, 0, rng.randint(0, 1), end_or_between(rng, 50, 100), rng.randint(0, 1), end_or_between(rng, 1, 400), 0, 0,
                   random_boards(rng), random_lamellae(rng))
     if peer.is_type_f(panel.boards):
         panel = panel._replace(failure_time=end_or_between(rng, peer.t_ch(panel), 360_000))
     return panel._replace(moment=end_or_between(rng, 0, min(1_000_000, greatest_moment(panel))))
+
+
+def turned(panel):
+    return panel._replace(lamellae=panel.lamellae[::-1])
+
+
+def any_face(rng, panel):
+    """The panel of either version and with any face, laid so that its fire, or one of its two, is the fire on the first face before."""
+    version, face = rng.choice([(1, 0), (2, 0), (2, 1), (2, 1), (2, 2), (2, 2)])
+    if face == peer.LAST_FACE or face == peer.EACH_ALONE and rng.random() < 0.5:
+        panel = turned(panel)
+    return panel._replace(version=version, face=face)
+
+
+def any_record(rng, panel):
+    """The record of the panel of either version and with any face."""
+    return peer.encode(any_face(rng, panel))
 
 
 def with_board(panel, i, **changes):
@@ -67,10 +84,14 @@ def with_lamella(panel, i, direction, thickness):
 
 def at_a_limit(rng, panel):
     """The panel with one field at a limit or one past it."""
-    field = rng.choice(["bond", "gap", "rate", "strength", "moment", "carried", "failure_time", "kind", "board", "joint",
+    field = rng.choice(["version", "face", "bond", "gap", "rate", "strength", "moment", "carried", "failure_time", "kind", "board", "joint",
                         "lamella", "sum", "direction", "along"])
     board = rng.randrange(len(panel.boards)) if panel.boards else None
     lamella = rng.randrange(len(panel.lamellae))
+    if field == "version":
+        return panel._replace(version=rng.choice([0, 1, 2, 3, 255]))
+    if field == "face":
+        return panel._replace(face=rng.choice([0, 1, 2, 3, 255]))
     if field in ("bond", "gap"):
         return panel._replace(**{field: rng.choice([0, 1, 2, 255])})
     if field == "rate":
@@ -171,9 +192,14 @@ def with_length(record):
     return len(record).to_bytes(2, "big") + record[2:]
 
 
+def patched(record, at, byte):
+    return record[:at] + bytes([byte]) + record[at + 1:]
+
+
 def damaged(rng, record):
-    """The record cut short, made longer, with a byte changed, or something else in its place."""
-    way = rng.randrange(8)
+    """The record cut short, made longer, with a byte changed, put in or taken out, or something else in its place."""
+    more = peer.face_bytes(record[2])
+    way = rng.randrange(12)
     if way == 0:
         return record[:rng.randrange(len(record))]
     if way == 1:
@@ -183,19 +209,26 @@ def damaged(rng, record):
     if way == 3:
         return with_length(record + rng.randbytes(rng.randint(1, 40)))
     if way == 4:
-        at = rng.randrange(len(record))
-        return record[:at] + bytes([rng.randrange(256)]) + record[at + 1:]
+        return patched(record, rng.randrange(len(record)), rng.randrange(256))
     if way == 5:  # the count of boards or of lamellae changed
-        at = rng.choice([12, 17 + 4 * record[12]])
-        return record[:at] + bytes([rng.choice([0, 1, 2, 3, 9, 10, 255])]) + record[at + 1:]
+        return patched(record, rng.choice([12, 17 + 4 * record[12 + more]]) + more, rng.choice([0, 1, 2, 3, 9, 10, 255]))
     if way == 6:
         return rng.randbytes(rng.randint(0, 128))
-    return with_length(b"\0\0\1" + rng.randbytes(rng.randint(18, 50)))
+    if way == 7:
+        return with_length(b"\0\0" + rng.choice([b"\1", b"\2\0", b"\2\1", b"\2\2"]) + rng.randbytes(rng.randint(18, 50)))
+    if way == 8:  # one byte off, the length field right
+        return with_length(rng.choice([record[:-1], record + rng.randbytes(1)]))
+    if way == 9:
+        return patched(record, 2, rng.choice([0, 1, 2, 3, 255]))
+    if way == 10:  # where version 2 has its face, and version 1 its bond
+        return patched(record, 3, rng.choice([0, 1, 2, 3, 4, 255]))
+    # a face byte in version 1, or none in version 2
+    return with_length(record[:3] + record[4:] if more else record[:3] + bytes([rng.randrange(4)]) + record[3:])
 
 
 def random_record(rng):
     """The bytes of one record, within the limits, at a limit or damaged. At most 128 bytes."""
-    panel = random_panel(rng)
+    panel = any_face(rng, random_panel(rng))
     if rng.random() < 0.5:
         return peer.encode(panel)
     if rng.random() < 0.5:

@@ -16,7 +16,7 @@ ghost use Rattle.card_run.specs.Input.{SpeaksForAll};
 // What of standard input fits into the space. No open call: there must be room for one byte more than the longest record has, so that
 // what is printed for the bytes read is what is printed for the whole input.
 fn read_input(space: &mut [u8]) -> usize
-    requires { ⌜ 54 ≤ length (now space) ⌝ }
+    requires { ⌜ 55 ≤ length (now space) ⌝ }
     ensures { λ r. ⌜ Counts r (now (space .exit)) ⌝ }
     ensures { λ r. ⌜ SpeaksForAll (length (now (space .entry))) (take r (now (space .exit))) ⌝ }
 {

@@ -8,22 +8,22 @@ use Rattle.limits.specs.Refusals.{panelRefusal}
 use Rattle.charring.specs.declared.Phase.{Phase}
 use Rattle.charring.specs.Phases.{phaseAt}
 use Rattle.load.specs.Failure.{TimePasses, IsFailureTime}
-use Rattle.load.specs.LoadMinute.{loadMinute}
+use Rattle.load.specs.LoadMinute.{printedLoad}
 
 pub data Case : Type 0 where
   -- a definition gives a number: what it gives, and what the document says
   gives : ℕ → ℕ → Case
-  -- a panel is accepted, and its load minute R is so many minutes
+  -- a panel is accepted, and the load minute R that is printed for it is so many minutes
   bears : Panel → ℕ → Case
-  -- a panel's failure time is exactly n/q minutes
+  -- in a fire, given as the panel that has it on its first face, the failure time is exactly n/q minutes
   failureTime : Panel → ℕ → ℕ → Case
-  -- a panel is in a phase at n/q minutes
+  -- in such a fire the panel is in a phase at n/q minutes
   inPhase : Panel → ℕ → ℕ → Phase → Case
 
 -- what it is for a row to hold
 abbrev pub Holds : Case → Type 0
 Holds (gives worked said) = worked ≡ said
-Holds (bears p m) = (panelRefusal p ≡ 0) × (loadMinute p ≡ m)
+Holds (bears p m) = (panelRefusal p ≡ 0) × (printedLoad p ≡ m)
 Holds (failureTime p n q) = IsFailureTime (TimePasses p) n q
 Holds (inPhase p n q f) = phaseAt p n q ≡ f
 

@@ -1,11 +1,12 @@
 -- Cases worked through further, by hand: of document 01's "Charring" what its starred lines leave out, with the phases; and of document
--- 02 panels behind wood-based boards.
+-- 02 panels behind wood-based boards and walls with a fire on either face.
 use Prim.Native.Nat.{ℕ}
 use mathlib.Core.List.{List, [], _∷_}
 use Rattle.panel.specs.declared.Cladding.{Cladding}
 use Rattle.panel.specs.declared.Cladding.the-variants.{One, Two}
 use Rattle.panel.specs.declared.Panel.{Panel}
 use Rattle.panel.specs.Boards.{charringStart}
+use Rattle.panel.specs.Faces.{turned, shown}
 use Rattle.panel.specs.Lamellae.{lamella}
 use Rattle.panel.specs.Worked.{panelWith, gLamellae, boardOf, board125}
 use Rattle.limits.specs.Refusals.{panelRefusal}
@@ -13,10 +14,10 @@ use Rattle.charring.specs.declared.Phase.the-variants.{Fast, Settled}
 use Rattle.panel.specs.declared.Material.the-variants.{Osb, ParticleBoard}
 use Rattle.record.specs.Layouts.{panelOf}
 use Rattle.record.specs.Refusals.{recordRefusal}
-use Rattle.charring.specs.Depths.{charAt}
+use Rattle.charring.specs.Depths.{charAt, micrometresAt}
 use Rattle.basic_times.specs.declared.Role.the-variants.{Protection, Insulation}
 use Rattle.basic_times.specs.Rules.{basicTime}
-use Rattle.layers.specs.Layers.{eiSum}
+use Rattle.layers.specs.Layers.{eiSum, printedEi}
 use Rattle.cases.specs.Cases.{Case, gives, bears, failureTime, inPhase, hundredths, hundredThousandths}
 
 -- Panels
@@ -61,6 +62,13 @@ behindO = gBehind 1 79 0 200
 -- behind type P, 40.0 mm
 abbrev pub behindP : List ℕ
 behindP = gBehind 0 80 1 144
+
+-- the record, of version 2, of a wall, 20 mm along, 30 across, 40 along, with falling bond: length 28, version 2, the face, bond 1, rate 65,
+-- gap 0, f 240, M 5,000, no boards, time 0, three lamellae
+abbrev pub wall : ℕ → List ℕ
+wall face =
+    0 ∷ 28 ∷ 2 ∷ face ∷ 1 ∷ 65 ∷ 0 ∷ 0 ∷ 240 ∷ 0 ∷ 0 ∷ 19 ∷ 136 ∷ 0 ∷ 0 ∷ 0 ∷ 0 ∷ 0 ∷ 3
+    ∷ 1 ∷ 0 ∷ 200 ∷ 0 ∷ 1 ∷ 44 ∷ 1 ∷ 1 ∷ 144 ∷ []
 
 -- Rows
 
@@ -130,4 +138,27 @@ further =
     ∷ bears (panelOf behindP) 128
     ∷ failureTime (panelOf behindP) 418943 3250
     ∷ gives (eiSum (panelOf behindP)) 12596
+    -- the wall is accepted with each face
+    ∷ gives (recordRefusal (wall 0)) 0
+    ∷ gives (recordRefusal (wall 1)) 0
+    ∷ gives (recordRefusal (wall 2)) 0
+    ∷ gives (recordRefusal (wall 3)) 16
+    -- from its first face: the line at 20 mm is reached at 20/0.65 min, its run ends at 45 mm at 50 min; it fails as 57.0 mm no longer
+    -- carry, that is at 50.0 mm of char, 5/0.65 min later
+    ∷ gives (charAt (panelOf (wall 0)) 50 1) (hundredths 4500 1)
+    ∷ bears (panelOf (wall 0)) 57
+    ∷ failureTime (panelOf (wall 0)) 750 13
+    -- from its last: the first line is at 40 mm; it fails as 35.8 mm no longer carry, that is at 28.8 mm of char, after 28.8/0.65 min
+    ∷ gives (charAt (turned (panelOf (wall 1))) 50 1) (hundredths 3250 1)
+    ∷ bears (panelOf (wall 1)) 44
+    ∷ failureTime (turned (panelOf (wall 1))) 576 13
+    -- from each alone: R is that of the last face, EI that of the first, and what is shown is that of the first
+    ∷ bears (panelOf (wall 2)) 44
+    ∷ gives (eiSum (panelOf (wall 2))) 8233
+    ∷ gives (eiSum (turned (panelOf (wall 2)))) 8881
+    ∷ gives (printedEi (panelOf (wall 0))) 82
+    ∷ gives (printedEi (panelOf (wall 1))) 88
+    ∷ gives (printedEi (panelOf (wall 2))) 82
+    ∷ gives (micrometresAt (shown (panelOf (wall 1))) 50 1) 32500
+    ∷ gives (micrometresAt (shown (panelOf (wall 2))) 50 1) 45000
     ∷ []

@@ -1,6 +1,6 @@
 -- What the open calls answer where a line turns the panel or the call back, and where none does.
 use Prim.Native.Nat.{ℕ, suc, _+_, _≤_, _<_}
-use mathlib.Core.Path.{_≡_, refl, sym, ap, _∙_}
+use mathlib.Core.Path.{_≡_, refl, sym, ap, subst, _∙_}
 use mathlib.Core.List.{List, [], _∷_, _++_, append-assoc}
 use native.Mathlib.Numerals.{add-one}
 use borrow.Author.Tests.{ltb-false, lt-ltb, le-ltb}
@@ -10,8 +10,11 @@ use lib.Seq.{drop-cons, set-append-seam}
 use Rattle.numbers.specs.Firsts.{firsts}
 use Rattle.numbers.proofs.FirstValues.{length-firsts}
 use Rattle.panel.specs.declared.Panel.{Panel}
+use Rattle.panel.specs.Faces.{shown}
 use Rattle.limits.specs.Lines.{Line, line}
 use Rattle.limits.specs.Refusals.{panelLines, panelRefusal}
+use Rattle.limits.proofs.Accepted.{accepted-fits}
+use Rattle.limits.proofs.Turned.{shown-accepted}
 use Rattle.limits.proofs.FirstLine.{cause-none, open-above, open-both, answered, turned-back}
 use Rattle.charring.specs.Fits.{FireFits}
 use Rattle.charring.proofs.Accepted.{fire-fits}
@@ -30,11 +33,17 @@ minute-taken p minute e =
     let both = open-both (panelLines p) (late minute) tt e in
     (both .0, ltb-false 360 minute (cause-none (late minute) tt (both .1) 15))
 
--- and its depths at the minute fit
-pub minute-fits : (p : Panel) (minute : ℕ) {n : ℕ} → n ≡ minuteRefusal p minute → n ≡ 0 → FireFits p × (minute ≤ 360)
-minute-fits p minute e z =
+-- the fire that is shown of an accepted panel fits
+pub shown-fits : (p exposed : Panel) → panelRefusal p ≡ 0 → exposed ≡ shown p → FireFits exposed
+shown-fits p exposed e s = subst FireFits (sym s) (fire-fits (shown p) (shown-accepted p e))
+
+pub minute-fits : (p exposed : Panel) (minute : ℕ) {n : ℕ} → n ≡ minuteRefusal p minute → n ≡ 0 → exposed ≡ shown p → FireFits exposed × (minute ≤ 360)
+minute-fits p exposed minute e z s =
     let h = minute-taken p minute (sym e ∙ z) in
-    (fire-fits p (h .0), h .1)
+    (shown-fits p exposed (h .0) s, h .1)
+
+pub minute-count : (p : Panel) (minute : ℕ) {n : ℕ} → n ≡ minuteRefusal p minute → n ≡ 0 → p .count ≤ 9
+minute-count p minute e z = accepted-fits p (minute-taken p minute (sym e ∙ z) .0) .count
 
 -- The table
 
@@ -66,14 +75,14 @@ pub table-turned :
     → (Refused n ≡ tableAnswer p space) × (space ≡ tableAfter p space)
 unfolding tableAnswer tableAfter
 table-turned p space n e ne =
-    (turned-back Refused Filled e ne, turned-back (λ (k : ℕ). space) (depthTable p ++ drop 361 space) e ne)
+    (turned-back Refused Filled e ne, turned-back (λ (k : ℕ). space) (depthTable (shown p) ++ drop 361 space) e ne)
 
 pub table-filled :
-    (p : Panel) (space after : List ℕ) → panelRefusal p ≡ 0 → 361 ≤ length space → after ≡ depthTable p ++ drop 361 space
+    (p : Panel) (space after : List ℕ) → panelRefusal p ≡ 0 → 361 ≤ length space → after ≡ depthTable (shown p) ++ drop 361 space
     → (Filled ≡ tableAnswer p space) × (after ≡ tableAfter p space)
 unfolding tableAnswer tableAfter
 table-filled p space after e h stored =
     let z = table-taken p space e h in (
       answered (tableRefusal p space) Refused Filled z,
-      stored ∙ answered (tableRefusal p space) (λ (k : ℕ). space) (depthTable p ++ drop 361 space) z,
+      stored ∙ answered (tableRefusal p space) (λ (k : ℕ). space) (depthTable (shown p) ++ drop 361 space) z,
     )

@@ -1,18 +1,23 @@
--- Panels of the same build have the same depths, phases and depth table, and the calls answer alike: none of them looks at strength or
--- moment.
-use Prim.Native.Nat.{ℕ}
+-- Panels of the same build have the same depths, phases and depth table, and the calls answer alike: none of them looks at version,
+-- strength or moment.
+use Prim.Native.Nat.{ℕ, _*_}
 use mathlib.Core.Path.{_≡_, refl, sym, _∙_}
 use mathlib.Core.List.{List, _++_}
 use Rattle.panel.specs.declared.Panel.{Panel}
 use Rattle.panel.specs.Builds.{SameBuild}
+use Rattle.panel.specs.Faces.{shown}
 use Rattle.panel.proofs.Builds.{same-shared}
-use Rattle.limits.specs.Lines.{Line, refusal}
+use Rattle.panel.proofs.Turning.{shown-build}
+use lib.ListN.{drop}
+use Rattle.limits.specs.Lines.{Line, refusal, answer}
 use Rattle.limits.specs.Refusals.{panelLines, panelRefusal}
 use Rattle.limits.proofs.FirstLine.{open-above}
 use Rattle.charring.specs.Fires.{failureOf, firstEnd, bondLines}
 use Rattle.charring.specs.Stages.{way}
-use Rattle.charring.specs.Depths.{charAt, effectiveAt, tenthsAt}
+use Rattle.charring.specs.Depths.{charAt, effectiveAt, roundUp, tenthsAt}
 use Rattle.charring.specs.Phases.{phaseAt}
+use Rattle.charring.specs.declared.PhaseAnswer.the-variants.{At, Refused as RefusedPhase}
+use Rattle.charring.specs.declared.DepthAnswer.the-variants.{Depth, Refused as RefusedDepth}
 use Rattle.charring.specs.Answers.{
   minuteRefusal,
   tableRefusal,
@@ -31,19 +36,19 @@ use Rattle.charring.proofs.Unused.{char-same, tenths-same, phase-same, 
 module _ (a b : Panel) (h : SameBuild a b) where
   pub char-shared : (n q : ℕ) → charAt a n q ≡ charAt b n q
   unfolding charAt way firstEnd failureOf bondLines
-  char-shared n q = same-shared (λ (p : Panel). charAt p n q) (λ p r k. char-same p r k n q) (λ p strength moment. refl) a b h
+  char-shared n q = same-shared (λ (p : Panel). charAt p n q) (λ p r k. char-same p r k n q) (λ p version strength moment. refl) a b h
 
   pub tenths-shared : (n q : ℕ) → tenthsAt a n q ≡ tenthsAt b n q
   unfolding effectiveAt charAt way firstEnd failureOf bondLines
-  tenths-shared n q = same-shared (λ (p : Panel). tenthsAt p n q) (λ p r k. tenths-same p r k n q) (λ p strength moment. refl) a b h
+  tenths-shared n q = same-shared (λ (p : Panel). tenthsAt p n q) (λ p r k. tenths-same p r k n q) (λ p version strength moment. refl) a b h
 
   pub phase-shared : (n q : ℕ) → phaseAt a n q ≡ phaseAt b n q
   unfolding phaseAt charAt way firstEnd failureOf bondLines
-  phase-shared n q = same-shared (λ (p : Panel). phaseAt p n q) (λ p r k. phase-same p r k n q) (λ p strength moment. refl) a b h
+  phase-shared n q = same-shared (λ (p : Panel). phaseAt p n q) (λ p r k. phase-same p r k n q) (λ p version strength moment. refl) a b h
 
   pub table-shared : depthTable a ≡ depthTable b
   unfolding depthTable charAt way firstEnd failureOf bondLines
-  table-shared = same-shared depthTable table-same (λ p strength moment. refl) a b h
+  table-shared = same-shared depthTable table-same (λ p version strength moment. refl) a b h
 
 -- Answers, where neither panel is turned back
 
@@ -66,15 +71,19 @@ module _ (a b : Panel) (e : panelRefusal a ≡ 0) (f : panelRefusal b ≡ 0) (h 
 
   pub phase-answers-shared : (minute : ℕ) → phaseAnswer a minute ≡ phaseAnswer b minute
   unfolding phaseAnswer
-  phase-answers-shared minute = rw (minute-alike minute, phase-shared a b h minute 1) refl
+  phase-answers-shared minute =
+      λ i. answer (minute-alike minute i) RefusedPhase (At (phase-shared (shown a) (shown b) (shown-build a b h) minute 1 i))
 
   pub char-answers-shared : (minute : ℕ) → charAnswer a minute ≡ charAnswer b minute
   unfolding charAnswer
-  char-answers-shared minute = rw (minute-alike minute, char-shared a b h minute 1) refl
+  char-answers-shared minute =
+      λ i. answer (minute-alike minute i) RefusedDepth
+      (Depth (roundUp (char-shared (shown a) (shown b) (shown-build a b h) minute 1 i) (2000000 * 1)))
 
   pub effective-answers-shared : (minute : ℕ) → effectiveAnswer a minute ≡ effectiveAnswer b minute
   unfolding effectiveAnswer
-  effective-answers-shared minute = rw (minute-alike minute, tenths-shared a b h minute 1) refl
+  effective-answers-shared minute =
+      λ i. answer (minute-alike minute i) RefusedDepth (Depth (tenths-shared (shown a) (shown b) (shown-build a b h) minute 1 i))
 
   pub table-answers-shared : (space : List ℕ) → tableAnswer a space ≡ tableAnswer b space
   unfolding tableAnswer
@@ -82,4 +91,5 @@ module _ (a b : Panel) (e : panelRefusal a ≡ 0) (f : panelRefusal b ≡ 0) (h 
 
   pub table-after-shared : (space : List ℕ) → tableAfter a space ≡ tableAfter b space
   unfolding tableAfter
-  table-after-shared space = rw (space-alike space, table-shared a b h) refl
+  table-after-shared space =
+      λ i. answer (space-alike space i) (λ (n : ℕ). space) (table-shared (shown a) (shown b) (shown-build a b h) i ++ drop 361 space)

@@ -4,18 +4,23 @@ use mathlib.Core.Path.{_≡_, refl, ap}
 use mathlib.Core.List.{List, [], _++_}
 use mathlib.Core.Bool.{true, false}
 use lib.Dec.{eqb, leb, ltb}
+use lib.ListN.{drop}
 use Rattle.numbers.proofs.FirstValues.{firsts-agree}
 use Rattle.panel.specs.declared.Panel.{Panel}
 use Rattle.panel.specs.Lamellae.{Lamella, cleared, SameUsed, thickness}
+use Rattle.panel.specs.Faces.{shown}
 use Rattle.panel.proofs.Used.{lamellae-cleared, unused}
-use Rattle.limits.specs.Lines.{Line, refusal}
+use Rattle.panel.proofs.Turning.{shown-same}
+use Rattle.limits.specs.Lines.{Line, refusal, answer}
 use Rattle.limits.proofs.Unused.{lines-unused}
 use Rattle.charring.specs.Fires.{tenth, startOf, failureOf, plainRate, firstEnd, linesFrom, bondLines}
 use Rattle.charring.specs.Stages.{Stretch, way}
-use Rattle.charring.specs.Depths.{charAt, effectiveAt, micrometresAt, tenthsAt}
+use Rattle.charring.specs.Depths.{charAt, effectiveAt, roundUp, micrometresAt, tenthsAt}
 use Rattle.charring.specs.Phases.{phaseOn, phaseAt}
 use Rattle.charring.specs.declared.Phase.{Phase}
 use Rattle.charring.specs.declared.Phase.the-variants.{Untouched, UnderCladding, Settled}
+use Rattle.charring.specs.declared.PhaseAnswer.the-variants.{At, Refused as RefusedPhase}
+use Rattle.charring.specs.declared.DepthAnswer.the-variants.{Depth, Refused as RefusedDepth}
 use Rattle.charring.specs.Answers.{
   minuteRefusal,
   tableRefusal,
@@ -88,16 +93,19 @@ table-refusal-same p q h space = ap (λ (ls : List Line). refusal (ls ++ short s
 
 pub phase-unused : (p q : Panel) → SameUsed p q → (minute : ℕ) → phaseAnswer p minute ≡ phaseAnswer q minute
 unfolding phaseAnswer
-phase-unused p q h minute = rw (minute-refusal-same p q h minute, phase-same p q h minute 1) refl
+phase-unused p q h minute =
+    λ i. answer (minute-refusal-same p q h minute i) RefusedPhase (At (phase-same (shown p) (shown q) (shown-same p q h) minute 1 i))
 
 pub char-unused : (p q : Panel) → SameUsed p q → (minute : ℕ) → charAnswer p minute ≡ charAnswer q minute
 unfolding charAnswer
-char-unused p q h minute = rw (minute-refusal-same p q h minute, char-same p q h minute 1) refl
+char-unused p q h minute =
+    λ i. answer (minute-refusal-same p q h minute i) RefusedDepth
+    (Depth (roundUp (char-same (shown p) (shown q) (shown-same p q h) minute 1 i) (2000000 * 1)))
 
 pub effective-unused : (p q : Panel) → SameUsed p q → (minute : ℕ) → effectiveAnswer p minute ≡ effectiveAnswer q minute
 unfolding effectiveAnswer
 effective-unused p q h minute =
-    rw (minute-refusal-same p q h minute, tenths-same p q h minute 1) refl
+    λ i. answer (minute-refusal-same p q h minute i) RefusedDepth (Depth (tenths-same (shown p) (shown q) (shown-same p q h) minute 1 i))
 
 pub table-same : (p q : Panel) → SameUsed p q → depthTable p ≡ depthTable q
 unfolding depthTable
@@ -111,4 +119,6 @@ table-unused p q h space = rw (table-refusal-same p q h space) refl
 
 pub table-after-unused : (p q : Panel) → SameUsed p q → (space : List ℕ) → tableAfter p space ≡ tableAfter q space
 unfolding tableAfter
-table-after-unused p q h space = rw (table-refusal-same p q h space, table-same p q h) refl
+table-after-unused p q h space =
+    λ i. answer (table-refusal-same p q h space i) (λ (n : ℕ). space)
+    (table-same (shown p) (shown q) (shown-same p q h) i ++ drop 361 space)

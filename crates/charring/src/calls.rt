@@ -1,4 +1,4 @@
-// The open calls of this crate: they ask nothing of their caller.
+// The open calls of this crate: they ask nothing of their caller. Depths and phases are those of the fire that is shown.
 use crate::DepthAnswer;
 use crate::ENTRIES;
 use crate::PhaseAnswer;
@@ -12,10 +12,11 @@ use limits::LAST_MINUTE;
 use limits::calls::panel_refusal;
 use limits::table::line_or;
 use panel::Panel;
+use panel::faces::shown;
 ghost use mathlib.Core.Path.{_≡_};
 ghost use Rattle.charring.specs.Answers.{minuteRefusal, phaseAnswer, charAnswer, effectiveAnswer, tableAnswer, tableAfter};
 
-// Lines 3 to 13 of a panel, then line 15 of a minute.
+// Lines 2, 16 and 3 to 13 of a panel, then line 15 of a minute.
 pub fn minute_refusal(p: Panel, minute: u16) -> u8
     ensures { λ r. ⌜ r ≡ minuteRefusal p minute ⌝ }
 {
@@ -34,7 +35,7 @@ pub fn phase(p: Panel, minute: u16) -> PhaseAnswer
     if n != 0 {
         return PhaseAnswer::Refused(n);
     }
-    PhaseAnswer::At(phase_at(p, minute as u64))
+    PhaseAnswer::At(phase_at(shown(p), minute as u64))
 }
 
 // The char depth at a whole minute, in micrometres, rounded up.
@@ -45,7 +46,8 @@ pub fn char_depth(p: Panel, minute: u16) -> DepthAnswer
     if n != 0 {
         return DepthAnswer::Refused(n);
     }
-    DepthAnswer::Depth(micrometres_in(p, fire_of(p), minute as u64))
+    let exposed = shown(p);
+    DepthAnswer::Depth(micrometres_in(exposed, fire_of(exposed), minute as u64))
 }
 
 // The effective depth at a whole minute, in tenths of mm, rounded up.
@@ -56,7 +58,8 @@ pub fn effective_depth(p: Panel, minute: u16) -> DepthAnswer
     if n != 0 {
         return DepthAnswer::Refused(n);
     }
-    DepthAnswer::Depth(tenths_in(p, fire_of(p), minute as u64))
+    let exposed = shown(p);
+    DepthAnswer::Depth(tenths_in(exposed, fire_of(exposed), minute as u64))
 }
 
 // The char depths of minutes 0 to 360 in micrometres, rounded up, into the lent space.
@@ -71,6 +74,6 @@ pub fn depth_table(p: Panel, out: &mut [u32]) -> TableAnswer
     if out.len() < ENTRIES {
         return TableAnswer::Refused(14);
     }
-    fill(p, out);
+    fill(shown(p), out);
     TableAnswer::Filled
 }

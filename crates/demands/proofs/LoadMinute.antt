@@ -6,17 +6,20 @@ use mathlib.Core.Logic.{inl, inr, ⊎-elim}
 use native.Mathlib.Omega.{arith}
 use native.Mathlib.Nat.{eq-or-lt-of-le}
 use Rattle.panel.specs.declared.Panel.{Panel}
+use Rattle.panel.specs.Faces.{turned, shown}
+use Rattle.panel.proofs.Turning.{every-holds}
+use Rattle.limits.specs.Refusals.{panelRefusal}
+use Rattle.limits.proofs.Turned.{refusal-turned}
 use Rattle.record.specs.Layouts.{panelOf}
 use Rattle.record.specs.Refusals.{recordLines, recordRefusal}
 use Rattle.record.proofs.Sound.{record-panel}
 use Rattle.charring.specs.Depths.{micrometresAt, tenthsAt}
-use Rattle.layers.specs.Layers.{eiMinute}
+use Rattle.layers.specs.Layers.{printedEi}
 use Rattle.grades.specs.Grades.{gradeOf, reiOf}
-use Rattle.load.specs.Failure.{TimePasses, PassesUpTo, IsLoadMinute}
-use Rattle.load.specs.LoadMinute.{loadMinute}
-use Rattle.load.proofs.LoadMinutes.{load-most, accepted-load-minute}
+use Rattle.load.specs.Failure.{TimePasses, EveryFirePasses, PassesUpTo}
+use Rattle.load.specs.LoadMinute.{loadMinute, printedLoad}
 use Rattle.load.proofs.WholeParts.{whole-exactly}
-use Rattle.load.proofs.Closeness.{load-next-above}
+use Rattle.load.proofs.EveryFire.{CloseBelow, load-close, printed-close, printed-most}
 use Rattle.load.proofs.Exposure.{not-enlarged}
 use Rattle.card_text.specs.Text.{textLine, after, firstNumber}
 use Rattle.card_text.proofs.Reading.{after-line, first-number}
@@ -24,23 +27,34 @@ use Rattle.fire_card.specs.Card.{cardHead, charHead, loadHead, eiHead, reiHead,
 use Rattle.fire_card.proofs.Prints.{printed-card}
 use Rattle.fire_card.proofs.Texts.{text-stands}
 use Rattle.card_c.proofs.Numbers.{written-bytes}
-use Rattle.demands.specs.Demand3.{printedMinute, Demanded, Demand3, Demand3OfCall, Demand3OfC}
+use Rattle.demands.specs.Demand3.{printedMinute, OfMinute, OfFire, Demanded, Demand3, Demand3OfCall, Demand3OfC}
 
--- Of a panel and its load minute
+-- Of a load minute, of a fire, and of a panel
 
-pub of-load-minute : (p : Panel) (m : ℕ) → IsLoadMinute p m → Demanded p m
-of-load-minute p m h =
+of-close : (Passes : ℕ → ℕ → Type 0) (m : ℕ) → CloseBelow Passes 1 m → OfMinute Passes m
+of-close Passes m h =
+    let most = h .whole .most in
     record {
-      exactly = whole-exactly (TimePasses p) 1 m h;
-      notAbove = h .notAbove;
-      close = ⊎-elim (λ (e : m ≡ 360). inr (e, subst (λ (k : ℕ). PassesUpTo (TimePasses p) k 1) e (h .notAbove)))
-          (λ (l : m < 360). inl (load-next-above p m h l)) (eq-or-lt-of-le (h .most));
-      following = λ ne. ⊎-elim (λ (e : m ≡ 360). absurd (ne e)) (λ (l : m < 360). load-next-above p m h l) (eq-or-lt-of-le (h .most));
-      most = h .most;
-      exposure = not-enlarged p;
+      exactly = whole-exactly Passes 1 m (h .whole);
+      notAbove = h .whole .notAbove;
+      close = ⊎-elim (λ (e : m ≡ 360). inr (e, subst (λ (k : ℕ). PassesUpTo Passes k 1) e (h .whole .notAbove)))
+          (λ (l : m < 360). inl (h .next l)) (eq-or-lt-of-le most);
+      following = λ ne. ⊎-elim (λ (e : m ≡ 360). absurd (ne e)) (λ (l : m < 360). h .next l) (eq-or-lt-of-le most);
+      most = most;
     }
 
--- The number on the line R is the load minute
+of-fire : (p : Panel) → panelRefusal p ≡ 0 → OfFire p
+of-fire p e = record { load = of-close (TimePasses p) (loadMinute p) (load-close p e); exposure = not-enlarged p }
+
+pub of-panel : (p : Panel) → panelRefusal p ≡ 0 → Demanded p (printedLoad p)
+of-panel p e =
+    record {
+      eachFire = every-holds OfFire (p .face) p (of-fire p e) (of-fire (turned p) (refusal-turned p ∙ e));
+      ofPrinted = of-close (EveryFirePasses p) (printedLoad p) (printed-close p e);
+      lesser = refl;
+    }
+
+-- The number on the line R is the printed load minute
 
 -- the lines of a card, one after the other
 in-a-row :
@@ -52,46 +66,49 @@ in-a-row a b c d e r i l = simp append-assoc refl
 after-char : (p : Panel) (minute : ℕ) (rest : List ℕ) → after 10 (charLine p minute ++ rest) ≡ rest
 after-char p minute rest = after-line charHead (minute ∷ micrometresAt p minute 1 ∷ tenthsAt p minute 1 ∷ []) rest refl
 
-pub printed-is : (p : Panel) → printedMinute (cardText p) ≡ loadMinute p
+pub printed-is : (p : Panel) → printedMinute (cardText p) ≡ printedLoad p
 unfolding cardText
 printed-is p =
-    ap printedMinute (in-a-row (textLine cardHead (1 ∷ [])) (charLine p 30) (charLine p 60) (charLine p 90) (charLine p 120) loadLine eiLine reiLine)
-    ∙ ap (λ (t : List ℕ). firstNumber (after 10 (after 10 (after 10 (after 10 t))))) (after-line cardHead (1 ∷ []) (charLine p 30 ++ from60) refl)
-    ∙ ap (λ (t : List ℕ). firstNumber (after 10 (after 10 (after 10 t)))) (after-char p 30 from60)
-    ∙ ap (λ (t : List ℕ). firstNumber (after 10 (after 10 t))) (after-char p 60 from90)
-    ∙ ap (λ (t : List ℕ). firstNumber (after 10 t)) (after-char p 90 from120)
-    ∙ ap firstNumber (after-char p 120 fromLoad)
-    ∙ first-number loadHead load (gradeOf load .minutes ∷ []) (eiLine ++ reiLine) refl (omega (arith, load-most p))
+    ap printedMinute (in-a-row (textLine cardHead (p .version ∷ [])) (charLine q 30) (charLine q 60) (charLine q 90) (charLine q 120) loadLine eiLine reiLine)
+    ∙ ap (λ (t : List ℕ). firstNumber (after 10 (after 10 (after 10 (after 10 t))))) (after-line cardHead (p .version ∷ []) (charLine q 30 ++ from60) refl)
+    ∙ ap (λ (t : List ℕ). firstNumber (after 10 (after 10 (after 10 t)))) (after-char q 30 from60)
+    ∙ ap (λ (t : List ℕ). firstNumber (after 10 (after 10 t))) (after-char q 60 from90)
+    ∙ ap (λ (t : List ℕ). firstNumber (after 10 t)) (after-char q 90 from120)
+    ∙ ap firstNumber (after-char q 120 fromLoad)
+    ∙ first-number loadHead load (gradeOf load .minutes ∷ []) (eiLine ++ reiLine) refl (omega (arith, printed-most p))
   where
+    q : Panel
+    q = shown p
+
     load : ℕ
-    load = loadMinute p
+    load = printedLoad p
 
     loadLine : List ℕ
     loadLine = textLine loadHead (load ∷ gradeOf load .minutes ∷ [])
 
     eiLine : List ℕ
-    eiLine = textLine eiHead (eiMinute p ∷ gradeOf (eiMinute p) .minutes ∷ [])
+    eiLine = textLine eiHead (printedEi p ∷ gradeOf (printedEi p) .minutes ∷ [])
 
     reiLine : List ℕ
-    reiLine = textLine reiHead (reiOf load (eiMinute p) .minutes ∷ [])
+    reiLine = textLine reiHead (reiOf load (printedEi p) .minutes ∷ [])
 
     fromLoad : List ℕ
     fromLoad = loadLine ++ (eiLine ++ reiLine)
 
     from120 : List ℕ
-    from120 = charLine p 120 ++ fromLoad
+    from120 = charLine q 120 ++ fromLoad
 
     from90 : List ℕ
-    from90 = charLine p 90 ++ from120
+    from90 = charLine q 90 ++ from120
 
     from60 : List ℕ
-    from60 = charLine p 60 ++ from90
+    from60 = charLine q 60 ++ from90
 
 -- of every accepted record's card
 of-card : (b : List ℕ) → recordRefusal b ≡ 0 → Demanded (panelOf b) (printedMinute (cardText (panelOf b)))
 of-card b e =
     let p = panelOf b in
-    subst (Demanded p) (sym (printed-is p)) (of-load-minute p (loadMinute p) (accepted-load-minute p (record-panel b e)))
+    subst (Demanded p) (sym (printed-is p)) (of-panel p (record-panel b e))
 
 pub demand-3 : Demand3
 demand-3 b e = subst (λ (text : List ℕ). Demanded (panelOf b) (printedMinute text)) (printed-card b e) (of-card b e)

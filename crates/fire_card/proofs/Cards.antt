@@ -5,16 +5,17 @@ use mathlib.Core.List.{List, [], _∷_, _++_}
 use lib.ListN.{length, length-append}
 use native.Mathlib.Omega.{arith}
 use Rattle.panel.specs.declared.Panel.{Panel}
+use Rattle.panel.specs.Faces.{shown}
 use Rattle.limits.specs.Lines.{answer}
 use Rattle.record.specs.Layouts.{panelOf}
 use Rattle.record.specs.Refusals.{recordRefusal}
 use Rattle.record.specs.Answers.{reading, blank, decode}
-use Rattle.layers.specs.Layers.{eiMinute}
+use Rattle.layers.specs.Layers.{printedEi}
 use Rattle.grades.specs.Grades.{gradeOf, reiOf}
 use Rattle.charring.specs.Depths.{micrometresAt, tenthsAt}
 use Rattle.card_text.specs.Text.{textLine}
 use Rattle.card_text.proofs.Lengths.{length-line}
-use Rattle.load.specs.LoadMinute.{loadMinute}
+use Rattle.load.specs.LoadMinute.{printedLoad}
 use Rattle.fire_card.specs.Card.{cardHead, charHead, loadHead, eiHead, reiHead, charLine, charLines, ratingLines, cardText}
 
 -- What stands in a record
@@ -40,23 +41,26 @@ both-most xs ys m n h k = simp length-append (omega arith)
 pub card-length : (p : Panel) → length (cardText p) ≤ 232
 unfolding cardText
 card-length p =
-    both-most (textLine cardHead (1 ∷ []) ++ charLines p) (ratingLines load ei) 168 64
-    (both-most (textLine cardHead (1 ∷ [])) (charLines p) 16 152 (length-line cardHead (1 ∷ []))
-    (both-most (charLine p 30 ++ charLine p 60 ++ charLine p 90) (charLine p 120) 114 38
-    (both-most (charLine p 30 ++ charLine p 60) (charLine p 90) 76 38
-    (both-most (charLine p 30) (charLine p 60) 38 38 (char 30) (char 60)) (char 90)) (char 120)))
+    both-most (textLine cardHead (p .version ∷ []) ++ charLines q) (ratingLines load ei) 168 64
+    (both-most (textLine cardHead (p .version ∷ [])) (charLines q) 16 152 (length-line cardHead (p .version ∷ []))
+    (both-most (charLine q 30 ++ charLine q 60 ++ charLine q 90) (charLine q 120) 114 38
+    (both-most (charLine q 30 ++ charLine q 60) (charLine q 90) 76 38
+    (both-most (charLine q 30) (charLine q 60) 38 38 (char 30) (char 60)) (char 90)) (char 120)))
     (both-most (loadLine ++ eiLine) reiLine 49 15
     (both-most loadLine eiLine 24 25 (length-line loadHead (load ∷ gradeOf load .minutes ∷ [])) (length-line eiHead (ei ∷ gradeOf ei .minutes ∷ [])))
     (length-line reiHead (reiOf load ei .minutes ∷ [])))
   where
+    q : Panel
+    q = shown p
+
     load : ℕ
-    load = loadMinute p
+    load = printedLoad p
 
     ei : ℕ
-    ei = eiMinute p
+    ei = printedEi p
 
-    char : (minute : ℕ) → length (charLine p minute) ≤ 38
-    char minute = length-line charHead (minute ∷ micrometresAt p minute 1 ∷ tenthsAt p minute 1 ∷ [])
+    char : (minute : ℕ) → length (charLine q minute) ≤ 38
+    char minute = length-line charHead (minute ∷ micrometresAt q minute 1 ∷ tenthsAt q minute 1 ∷ [])
 
     loadLine : List ℕ
     loadLine = textLine loadHead (load ∷ gradeOf load .minutes ∷ [])

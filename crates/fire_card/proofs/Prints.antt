@@ -21,12 +21,12 @@ pub printed-refusal : (b : List ℕ) (n : ℕ) → n ≡ recordRefusal b → (n 
 unfolding printedText
 printed-refusal b n e ne = ap refusalText e ∙ refused (recordRefusal b) refusalText (cardText (panelOf b)) (λ z. ne (e ∙ z))
 
--- every input longer than 53 bytes has the same text
-pub printed-long : (b : List ℕ) → 53 < length b → printedText b ≡ refusalText 1
+-- every input longer than 54 bytes has the same text
+pub printed-long : (b : List ℕ) → 54 < length b → printedText b ≡ refusalText 1
 printed-long b h = sym (printed-refusal b 1 (sym (too-long b h)) (λ z. absurd (let w : ⊥ = omega arith in w)))
 
--- so that the first bytes of an input say what the whole of it does, if they are more than 53
-pub printed-first : (b : List ℕ) (n : ℕ) → 53 < n → printedText (take n b) ≡ printedText b
+-- so that the first bytes of an input say what the whole of it does, if they are more than 54
+pub printed-first : (b : List ℕ) (n : ℕ) → 54 < n → printedText (take n b) ≡ printedText b
 printed-first b n h = go (decLe (length b) n)
   where
     go : Dec (length b ≤ n) → printedText (take n b) ≡ printedText b

@@ -3,10 +3,11 @@ use Prim.Native.Nat.{ℕ}
 use mathlib.Core.List.{List, [], _∷_, _++_}
 use Rattle.card_text.specs.Text.{textLine}
 use Rattle.panel.specs.declared.Panel.{Panel}
+use Rattle.panel.specs.Faces.{shown}
 use Rattle.charring.specs.Depths.{micrometresAt, tenthsAt}
-use Rattle.layers.specs.Layers.{eiMinute}
+use Rattle.layers.specs.Layers.{printedEi}
 use Rattle.grades.specs.Grades.{gradeOf, reiOf}
-use Rattle.load.specs.LoadMinute.{loadMinute}
+use Rattle.load.specs.LoadMinute.{printedLoad}
 
 -- Line heads
 
@@ -49,9 +50,10 @@ abbrev pub ratingLines : ℕ → ℕ → List ℕ
 ratingLines load ei =
     textLine loadHead (load ∷ gradeOf load .minutes ∷ []) ++ textLine eiHead (ei ∷ gradeOf ei .minutes ∷ []) ++ textLine reiHead (reiOf load ei .minutes ∷ [])
 
--- the card of a panel; "CARD has the version"
+-- the card of a panel: "CARD has the version"; "the CHAR lines .. are those of face 0" for 2, and "the printed minutes are the lesser of the
+-- two fires"
 unfoldable pub cardText : Panel → List ℕ
-cardText p = textLine cardHead (1 ∷ []) ++ charLines p ++ ratingLines (loadMinute p) (eiMinute p)
+cardText p = textLine cardHead (p .version ∷ []) ++ charLines (shown p) ++ ratingLines (printedLoad p) (printedEi p)
 
 -- "A refusal prints only `REFUSED` and its number"
 abbrev pub refusalText : ℕ → List ℕ

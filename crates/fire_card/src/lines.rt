@@ -8,6 +8,7 @@ use grades::Grade;
 use layers::minutes::ei_minute_of;
 use load::minutes::load_minute_of;
 use panel::Panel;
+use panel::faces::shown;
 ghost use mathlib.Core.Path.{_≡_};
 ghost use Prim.Native.Nat.{_+_, _≤_};
 ghost use lib.ListN.{length};
@@ -60,7 +61,7 @@ pub(crate) fn put_card(out: &mut [u8], p: Panel) -> usize
 {
     let load = load_minute_of(p);
     let ei = ei_minute_of(p);
-    let head = put_line(out, 0, b"CARD", &[1]);
-    let chars = put_chars(out, head, p);
+    let head = put_line(out, 0, b"CARD", &[p.version as u32]);
+    let chars = put_chars(out, head, shown(p));
     put_ratings(out, chars, load, ei as u16)
 }

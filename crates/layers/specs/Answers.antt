@@ -4,12 +4,12 @@ use Rattle.limits.specs.Lines.{answer}
 use Rattle.limits.specs.Refusals.{panelRefusal}
 use Rattle.layers.specs.declared.LayerAnswer.{LayerAnswer}
 use Rattle.layers.specs.declared.LayerAnswer.the-variants.{Value, Refused}
-use Rattle.layers.specs.Layers.{eiSum, eiMinute}
+use Rattle.layers.specs.Layers.{printedEi, leastSum}
 
 -- the sum of the layer times, hundredths of a minute
 unfoldable pub eiSumAnswer : Panel → LayerAnswer
-eiSumAnswer p = answer (panelRefusal p) Refused (Value (eiSum p))
+eiSumAnswer p = answer (panelRefusal p) Refused (Value (leastSum p))
 
 -- EI in whole minutes
 unfoldable pub eiAnswer : Panel → LayerAnswer
-eiAnswer p = answer (panelRefusal p) Refused (Value (eiMinute p))
+eiAnswer p = answer (panelRefusal p) Refused (Value (printedEi p))

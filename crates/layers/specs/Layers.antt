@@ -9,6 +9,7 @@ use Rattle.panel.specs.declared.Panel.{Panel}
 use Rattle.panel.specs.declared.Material.the-variants.{Wood}
 use Rattle.panel.specs.Boards.{boardsOf, materialOf, wholeJoint}
 use Rattle.panel.specs.Lamellae.{Lamella, lamellae}
+use Rattle.panel.specs.Faces.{fires, leastOf}
 use Rattle.limits.specs.Causes.{lastMinute}
 use Rattle.basic_times.specs.declared.Role.{Role}
 use Rattle.basic_times.specs.declared.Role.the-variants.{Protection, Insulation}
@@ -19,7 +20,7 @@ pub data Layer : Type 0 where
   boardLayer : Board → Layer
   lamellaLayer : Lamella → Layer
 
--- the layers of a panel, from the exposed side
+-- the layers of a panel in the fire on its first face, from the exposed side: "boards on the far face are no layer"
 abbrev pub layersOf : Panel → List Layer
 layersOf p = map boardLayer (boardsOf (p .cladding)) ++ map lamellaLayer (lamellae p)
 
@@ -67,3 +68,11 @@ eiSum p = sumAfter 0 (layersOf p)
 -- "EI is the sum, in minutes rounded down, at most 360."
 abbrev pub eiMinute : Panel → ℕ
 eiMinute p = min (eiSum p / partsPerMinute) lastMinute
+
+-- "For 2 the printed minutes are the lesser of the two fires": the EI that is answered and printed
+abbrev pub printedEi : Panel → ℕ
+printedEi p = leastOf eiMinute (fires p)
+
+-- and the sum beside it, which the papers leave open for two fires
+abbrev pub leastSum : Panel → ℕ
+leastSum p = leastOf eiSum (fires p)

@@ -1,7 +1,7 @@
 // The open calls of this crate: they ask nothing of their caller.
 use crate::LayerAnswer;
 use crate::minutes::ei_minute_of;
-use crate::sums::ei_sum_of;
+use crate::minutes::least_sum_of;
 use limits::calls::panel_refusal;
 use panel::Panel;
 ghost use mathlib.Core.Path.{_≡_};
@@ -15,7 +15,7 @@ pub fn ei_sum(p: Panel) -> LayerAnswer
     if n != 0 {
         return LayerAnswer::Refused(n);
     }
-    LayerAnswer::Value(ei_sum_of(p))
+    LayerAnswer::Value(least_sum_of(p))
 }
 
 // EI in whole minutes.

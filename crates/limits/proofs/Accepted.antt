@@ -4,7 +4,7 @@ use mathlib.Core.Path.{_≡_, refl, sym, ap, subst, _∙_}
 use mathlib.Core.List.{List, [], _∷_}
 use mathlib.Core.Bool.{Bool, true, false, not, _&&_, _||_}
 use native.Mathlib.Omega.{arith}
-use borrow.Author.Tests.{ltb-false, not-false, eqb-true}
+use borrow.Author.Tests.{ltb-false, not-false, eqb-true, eq-eqb}
 use lib.ListN.{length, getD}
 use lib.Dec.{ltb, eqb}
 use mathlib.Core.Logic.{_↔_}
@@ -112,12 +112,18 @@ lamellae-keep (l ∷ ls) e =
 pub accepted-keeps : (p : Panel) → panelRefusal p ≡ 0 → Keeps p
 accepted-keeps p e =
     let none = accepted-cause p e in
+    let version = in-range 1 2 (p .version) (none 2) in
+    let sixteen = or-none (ltb 2 (p .face)) (eqb (p .version) 1 && not (eqb (p .face) 0)) (none 16) in
     let three = or-none (ltb 1 (p .bond)) (ltb 1 (p .gap)) (none 3) in
     let rate = in-range 50 100 (p .rate) (none 4) in
     let load = or-none (outside 1 400 (p .strength)) (ltb 1000000 (p .moment)) (none 5) in
     let time = given-keeps (typeF (p .cladding)) (charringStart (p .gap) (p .cladding)) (p .«failure_time») (none 9) in
     let thick = or-none (some badLamella (lamellae p)) (ltb 4000 (thickness (lamellae p))) (none 11) in
     record {
+      versionLeast = version .0;
+      versionMost = version .1;
+      face = ltb-false 2 (p .face) (sixteen .0);
+      firstFace = λ e. eqb-true (p .face) 0 (not-false (eqb (p .face) 0) (rw (eq-eqb (p .version) 1 e) at (sixteen .1)));
       bond = ltb-false 1 (p .bond) (three .0);
       gap = ltb-false 1 (p .gap) (three .1);
       rateLeast = rate .0;
@@ -145,7 +151,7 @@ unfolding panelRefusal
 table-accepted f p e =
     let none = cause-none (tableLines f p) tt e in
     let ten = or-none (f .«lamella_count») (badCount (p .count)) (none 10) in
-    let same : noBytes ≡ f = sym (λ i. record { length = none 1 i; version = none 2 i; «board_count» = none 6 i; «lamella_count» = ten .0 i }) in
+    let same : noBytes ≡ f = sym (λ i. record { length = none 1 i; «board_count» = none 6 i; «lamella_count» = ten .0 i }) in
     ap (λ (g : ByteFaults). refusal (tableLines g p)) same ∙ e
 
 -- Lamellae by their place

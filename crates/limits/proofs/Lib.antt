@@ -2,11 +2,13 @@
 pub mod FirstLine
 -- What holds of an accepted panel.
 pub mod Accepted
+-- What the functions need.
+pub mod Tests
+-- A turned panel meets the lines of the panel.
+pub mod Turned
 -- Unused places do not matter.
 pub mod Unused
 -- What the same build means.
 pub mod SameBuilds
--- What the functions need.
-pub mod Tests
 -- Worked panels are accepted.
 pub mod Worked

@@ -1,5 +1,6 @@
--- What the answer of `same_build` says of two panels (document 02, 2/14): exactly when they are the same build, that panels with other
--- boards or lamellae are different, and that the same build is an equivalence, so that panels of one build can share a card number.
+-- What the answer of `same_build` says of two panels (document 02, 2/14 and 3/14): exactly when they are the same build, that panels with
+-- other boards or lamellae or another face are different, that version, strength and moment do not matter, and that the same build is an
+-- equivalence, so that panels of one build can share a card number.
 use Prim.Native.Nat.{ℕ, zero, suc}
 use mathlib.Core.Path.{_≡_, refl}
 use mathlib.Core.Logic.{_↔_}
@@ -9,7 +10,7 @@ use Rattle.numbers.proofs.Booleans.{and-left, not-both}
 use Rattle.panel.specs.declared.Panel.{Panel}
 use Rattle.panel.specs.Boards.{boardsOf}
 use Rattle.panel.specs.Lamellae.{lamellae}
-use Rattle.panel.specs.Builds.{sameLayers, sameNumbers, sameBuild, SameBuild}
+use Rattle.panel.specs.Builds.{sameLayers, sameNumbers, sameBuild, SameBuild, withUncompared}
 use Rattle.panel.proofs.Builds.{same-exactly, build-reflexive, build-symmetric, build-transitive}
 use Rattle.limits.specs.declared.BuildAnswer.the-variants.{Same, Different, Refused}
 use Rattle.limits.specs.Lines.{answer}
@@ -45,8 +46,8 @@ module _ (same : Panel → Panel → Bool) (t : Bool) (a b : Panel) where
   unfolding compared
   compared-so e f s = rw (e, f, s)
 
--- "EXACTLY WHEN": `Same` of accepted panels whose boards and lamellae are equal, as lists, and whose bond, rate, gap and failure time are;
--- `Different` of accepted panels of which that does not hold
+-- "EXACTLY WHEN": `Same` of accepted panels whose boards and lamellae are equal, as lists, and whose face, bond, rate, gap and failure time
+-- are; `Different` of accepted panels of which that does not hold
 
 module _ (a b : Panel) where
   pub same-when : (buildAnswer a b ≡ Same) ↔ ((panelRefusal a ≡ 0) × ((panelRefusal b ≡ 0) × SameBuild a b))
@@ -86,6 +87,18 @@ module _ (a b : Panel) where
   same-by-layers e =
       let says = compared-says sameBuild true a b e in
       compared-so sameLayers true a b (says .0) (says .1 .0) (and-left (sameLayers a b) (sameNumbers a b) (says .1 .1))
+
+  -- "Panels of different face are different builds", a symmetrical panel and the same turned too
+  pub other-face : panelRefusal a ≡ 0 → panelRefusal b ≡ 0 → (a .face ≡ b .face → ⊥) → buildAnswer a b ≡ Different
+  other-face e f differ = different-when .1 (e, (f, λ s. differ (s .face)))
+
+-- "the version isn't looked at", nor are strength and moment
+pub uncompared-same :
+    (p : Panel) (version strength moment : ℕ) → panelRefusal p ≡ 0 → panelRefusal (withUncompared p version strength moment) ≡ 0
+    → buildAnswer p (withUncompared p version strength moment) ≡ Same
+uncompared-same p version strength moment e f =
+    same-when p (withUncompared p version strength moment) .1
+    (e, (f, record { boards = refl; lamellae = refl; face = refl; bond = refl; rate = refl; gap = refl; «failure_time» = refl }))
 
 -- Of accepted panels the same build is an equivalence
 

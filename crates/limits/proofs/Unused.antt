@@ -3,8 +3,12 @@ use Prim.Native.Nat.{ℕ}
 use mathlib.Core.Path.{_≡_, refl, ap, _∙_}
 use Rattle.panel.specs.declared.Panel.{Panel}
 use Rattle.panel.specs.Lamellae.{cleared, SameUsed}
+use Rattle.panel.specs.Faces.{shown}
 use Rattle.panel.proofs.Used.{lamellae-cleared, count-cleared, cleared-same, unused}
-use Rattle.limits.specs.Lines.{refusal}
+use Rattle.panel.proofs.Turning.{shown-same}
+use Rattle.section.specs.Tests.{sectionAt, depthPasses}
+use Rattle.limits.specs.declared.SectionAnswer.the-variants.{At, Refused}
+use Rattle.limits.specs.Lines.{refusal, answer}
 use Rattle.limits.specs.Refusals.{panelLines, panelRefusal}
 use Rattle.limits.specs.Answers.{sectionAnswer, compared, buildAnswer}
 
@@ -16,11 +20,17 @@ pub refusal-unused : (p q : Panel) → SameUsed p q → panelRefusal p ≡ panel
 unfolding panelRefusal
 refusal-unused p q h = ap refusal (lines-unused p q h)
 
+pub section-same : (p q : Panel) → SameUsed p q → (depth : ℕ) → sectionAt p depth ≡ sectionAt q depth
+section-same p q h depth = unused (λ (p : Panel). sectionAt p depth) (λ p. rw (lamellae-cleared p) refl) p q h
+
+pub passes-same : (p q : Panel) → SameUsed p q → (depth : ℕ) → depthPasses p depth ≡ depthPasses q depth
+passes-same p q h depth = unused (λ (p : Panel). depthPasses p depth) (λ p. rw (lamellae-cleared p) refl) p q h
+
 pub section-unused : (p q : Panel) → SameUsed p q → (depth : ℕ) → sectionAnswer p depth ≡ sectionAnswer q depth
 unfolding sectionAnswer
 section-unused p q h depth =
-    unused (λ (p : Panel). sectionAnswer p depth)
-    (λ p. rw (refusal-unused (cleared p) p (cleared-same p), lamellae-cleared p) refl) p q h
+    let fire = shown-same p q h in
+    λ i. answer (refusal-unused p q h i) Refused (At (section-same (shown p) (shown q) fire depth i) (passes-same (shown p) (shown q) fire depth i))
 
 pub build-unused : (a b p q : Panel) → SameUsed a p → SameUsed b q → buildAnswer a b ≡ buildAnswer p q
 unfolding compared

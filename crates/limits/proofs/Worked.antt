@@ -3,7 +3,8 @@
 use mathlib.Core.Path.{_≡_, refl}
 use Rattle.panel.specs.Lamellae.{lamellaeOf, thickness}
 use Rattle.panel.specs.Builds.{sameLamellae}
-use Rattle.panel.specs.Worked.{g, gFalling}
+use Rattle.panel.specs.Faces.{turned}
+use Rattle.panel.specs.Worked.{g, gFalling, onFace}
 use Rattle.section.specs.Sections.{countedFrom, total, lowest, highest, sectionOf}
 use Rattle.section.specs.Tests.{carries}
 use Rattle.limits.specs.Causes.{some}
@@ -24,3 +25,13 @@ g-same = refl
 pub g-different : buildAnswer (g 3000) (gFalling 3000) ≡ Different
 unfolding compared sameLamellae panelRefusal some lamellaeOf thickness countedFrom total lowest highest sectionOf carries
 g-different = refl
+
+-- the same panel in both versions: the same build
+pub g-versions : buildAnswer (g 3000) (onFace 0 (g 3000)) ≡ Same
+unfolding compared sameLamellae panelRefusal some lamellaeOf thickness countedFrom total lowest highest sectionOf carries
+g-versions = refl
+
+-- G, which is symmetrical, turned and with another face: another build
+pub g-turned : buildAnswer (onFace 0 (g 3000)) (onFace 1 (turned (g 3000))) ≡ Different
+unfolding compared sameLamellae panelRefusal some lamellaeOf thickness countedFrom total lowest highest sectionOf carries
+g-turned = refl

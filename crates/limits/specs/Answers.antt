@@ -3,6 +3,7 @@ use Prim.Native.Nat.{ℕ}
 use mathlib.Core.Bool.{Bool, true, false}
 use Rattle.panel.specs.declared.Panel.{Panel}
 use Rattle.panel.specs.Builds.{sameBuild}
+use Rattle.panel.specs.Faces.{shown}
 use Rattle.section.specs.Tests.{sectionAt, depthPasses}
 use Rattle.limits.specs.declared.SectionAnswer.{SectionAnswer}
 use Rattle.limits.specs.declared.SectionAnswer.the-variants.{At, Refused}
@@ -11,9 +12,9 @@ use Rattle.limits.specs.declared.BuildAnswer.the-variants.{Same, Differe
 use Rattle.limits.specs.Lines.{answer}
 use Rattle.limits.specs.Refusals.{panelRefusal}
 
--- the section at a depth, with whether the depth passes; or the refusal
+-- the section at a depth, with whether the depth passes, in the fire that is shown; or the refusal
 unfoldable pub sectionAnswer : Panel → ℕ → SectionAnswer
-sectionAnswer p depth = answer (panelRefusal p) Refused (At (sectionAt p depth) (depthPasses p depth))
+sectionAnswer p depth = answer (panelRefusal p) Refused (At (sectionAt (shown p) depth) (depthPasses (shown p) depth))
 
 abbrev pub sameIf : Bool → BuildAnswer
 sameIf true = Same

@@ -1,4 +1,5 @@
--- The causes of lines 3 to 13 of document 01's table, each as a test of a panel, and of line 15, of a minute.
+-- The causes of the lines that are about a panel, each as a test of it, and of line 15, of a minute: document 01's table, and 02's lines 2
+-- and 16.
 use Prim.Native.Nat.{ℕ}
 use mathlib.Core.List.{List, [], _∷_}
 use mathlib.Core.Bool.{Bool, false, not, _&&_, _||_}
@@ -13,6 +14,14 @@ use Rattle.panel.specs.declared.Material.the-variants.{Wood}
 use Rattle.panel.specs.Materials.{badThickness}
 use Rattle.panel.specs.Boards.{known, woodBased, materialOf, isF, typeF, wholeJoint, charringStart}
 use Rattle.section.specs.Tests.{depthPasses}
+
+-- 2, version: "all but 1 and 2"
+abbrev pub badVersion : Panel → Bool
+badVersion p = outside 1 2 (p .version)
+
+-- 16, face: "above 2, or a version 1 panel with a face other than 0"
+abbrev pub badFace : Panel → Bool
+badFace p = ltb 2 (p .face) || (eqb (p .version) 1 && not (eqb (p .face) 0))
 
 -- 3, bond, gap: "either above 1"
 abbrev pub badBondOrGap : Panel → Bool

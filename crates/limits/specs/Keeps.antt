@@ -1,4 +1,4 @@
--- What lines 3 to 11 leave of a panel that none of them turns back, as inequalities: the one record of limits that the other crates work
+-- What lines 2 to 11 and 16 leave of a panel that none of them turns back, as inequalities: the one record of limits that the other crates work
 -- within. What their inner functions ask for are parts of it.
 use Prim.Native.Nat.{ℕ, _+_, _*_, _<_, _≤_}
 use mathlib.Core.Path.{_≡_}
@@ -52,6 +52,12 @@ abbrev pub ThicknessesKeep : List ℕ → ℕ → Type 0
 ThicknessesKeep ts n = (i : ℕ) → i < n → ThicknessKeeps Wood (getD ts i 0)
 
 pub record Keeps (p : Panel) : Type 0 where
+  -- line 2
+  pub versionLeast : 1 ≤ p .version
+  pub versionMost : p .version ≤ 2
+  -- line 16
+  pub face : p .face ≤ 2
+  pub firstFace : p .version ≡ 1 → p .face ≡ 0
   -- line 3
   pub bond : p .bond ≤ 1
   pub gap : p .gap ≤ 1

@@ -1,5 +1,5 @@
--- Document 01, "Where a record is turned back": the table of a panel and of the bytes in which it may stand. Lines 14 and 15 are
--- about the call.
+-- Document 01, "Where a record is turned back", with line 16 of document 02: the table of a panel and of the bytes in which it may
+-- stand. Lines 14 and 15 are about the call.
 use Prim.Native.Nat.{ℕ}
 use mathlib.Core.List.{List, [], _∷_}
 use mathlib.Core.Bool.{false, _||_}
@@ -7,6 +7,8 @@ use Rattle.panel.specs.declared.Panel.{Panel}
 use Rattle.limits.specs.declared.ByteFaults.{ByteFaults}
 use Rattle.limits.specs.Lines.{Line, line, refusal}
 use Rattle.limits.specs.Causes.{
+  badVersion,
+  badFace,
   badBondOrGap,
   badRate,
   badLoad,
@@ -19,15 +21,16 @@ use Rattle.limits.specs.Causes.{
   badSection,
 }
 
--- a panel alone has no bytes: of line 6 nothing is left for it, and of line 10 the count
+-- a panel alone has no bytes: of lines 1 and 6 nothing is left for it, and of line 10 the count
 abbrev pub noBytes : ByteFaults
-noBytes = record { length = false; version = false; «board_count» = false; «lamella_count» = false }
+noBytes = record { length = false; «board_count» = false; «lamella_count» = false }
 
--- the table, "Checked from top to bottom"
+-- the table, "Checked from top to bottom"; 16 is "checked after the version"
 abbrev pub tableLines : ByteFaults → Panel → List Line
 tableLines f p =
     line 1 (f .length)  -- length
-    ∷ line 2 (f .version)  -- version
+    ∷ line 2 (badVersion p)  -- version
+    ∷ line 16 (badFace p)  -- face
     ∷ line 3 (badBondOrGap p)  -- bond, gap
     ∷ line 4 (badRate p)  -- rate
     ∷ line 5 (badLoad p)  -- strength, moment
@@ -41,7 +44,7 @@ tableLines f p =
     ∷ line 13 (badSection p)  -- section
     ∷ []
 
--- "The writer checks lines 3 to 13 alike .. so does every other call that is given a panel"
+-- "The writer checks lines 3 to 13 alike .. so does every other call that is given a panel"; they "now check line 2 and 16 before line 3"
 abbrev pub panelLines : Panel → List Line
 panelLines p = tableLines noBytes p
 

@@ -1,4 +1,4 @@
-// Whether boards and lamellae agree, in order, and bond, rate, gap and failure time.
+// Whether boards and lamellae agree, in order, and face, bond, rate, gap and failure time.
 use panel::Board;
 use panel::Cladding;
 use panel::Panel;
@@ -82,7 +82,11 @@ fn same_lamellae(a: Panel, b: Panel, count: usize) -> bool
 fn same_numbers(a: Panel, b: Panel) -> bool
     ensures { λ r. ⌜ r ≡ sameNumbers a b ⌝ }
 {
-    (a.bond == b.bond) & (a.rate == b.rate) & (a.gap == b.gap) & (a.failure_time == b.failure_time)
+    (a.face == b.face)
+        & (a.bond == b.bond)
+        & (a.rate == b.rate)
+        & (a.gap == b.gap)
+        & (a.failure_time == b.failure_time)
 }
 
 // No open call: both panels must keep the limit of line 10.

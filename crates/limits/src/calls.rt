@@ -5,6 +5,7 @@ use crate::SectionAnswer;
 use crate::builds::is_same_build;
 use crate::table::table_refusal;
 use panel::Panel;
+use panel::faces::shown;
 use panel::timber::factor_of;
 use section::sums::section_at;
 use section::test::section_passes;
@@ -12,20 +13,19 @@ ghost use mathlib.Core.Path.{_≡_};
 ghost use Rattle.limits.specs.Refusals.{panelRefusal};
 ghost use Rattle.limits.specs.Answers.{sectionAnswer, buildAnswer, sameIf};
 
-// Lines 3 to 13 of a panel: the number of the first that fits, or 0.
+// Lines 2, 16 and 3 to 13 of a panel: the number of the first that fits, or 0.
 pub fn panel_refusal(p: Panel) -> u8
     ensures { λ r. ⌜ r ≡ panelRefusal p ⌝ }
 {
     let none = ByteFaults {
         length: false,
-        version: false,
         board_count: false,
         lamella_count: false,
     };
     table_refusal(none, p)
 }
 
-// The section at a depth in tenths of mm, and whether the depth passes.
+// The section at a depth in tenths of mm, and whether the depth passes, in the fire that is shown.
 pub fn section(p: Panel, depth: u32) -> SectionAnswer
     ensures { λ r. ⌜ r ≡ sectionAnswer p depth ⌝ }
 {
@@ -33,10 +33,11 @@ pub fn section(p: Panel, depth: u32) -> SectionAnswer
     if n != 0 {
         return SectionAnswer::Refused(n);
     }
-    let s = section_at(p, depth);
+    let exposed = shown(p);
+    let s = section_at(exposed, depth);
     SectionAnswer::At(
         s,
-        section_passes(factor_of(p.bond), p.moment, p.strength, s),
+        section_passes(factor_of(exposed.bond), exposed.moment, exposed.strength, s),
     )
 }
 

@@ -1,4 +1,4 @@
-// The causes of lines 3 to 13, each a test of a panel or of a part of it.
+// The causes of lines 2 to 13 and 16, each a test of a panel or of a part of it.
 use numbers::words32::is_outside;
 use panel::Board;
 use panel::Cladding;
@@ -18,7 +18,19 @@ ghost use mathlib.Core.List.{List};
 ghost use Prim.Native.Nat.{ℕ, _≤_};
 ghost use Rattle.panel.specs.Lamellae.{lamella, lamellaeOf, along, thickness};
 ghost use Rattle.section.specs.Tests.{SectionFits};
-ghost use Rattle.limits.specs.Causes.{badBondOrGap, badRate, badLoad, badTypes, badBoard, badBoards, badFailureTime, badCount, badLamella, badLamellae, noneAlong, badSection, some};
+ghost use Rattle.limits.specs.Causes.{badVersion, badFace, badBondOrGap, badRate, badLoad, badTypes, badBoard, badBoards, badFailureTime, badCount, badLamella, badLamellae, noneAlong, badSection, some};
+
+pub(crate) fn bad_version(p: Panel) -> bool
+    ensures { λ r. ⌜ r ≡ badVersion p ⌝ }
+{
+    (p.version < 1) | (2 < p.version)
+}
+
+pub(crate) fn bad_face(p: Panel) -> bool
+    ensures { λ r. ⌜ r ≡ badFace p ⌝ }
+{
+    (2 < p.face) | ((p.version == 1) & !(p.face == 0))
+}
 
 pub(crate) fn bad_bond_or_gap(p: Panel) -> bool
     ensures { λ r. ⌜ r ≡ badBondOrGap p ⌝ }

@@ -1,4 +1,4 @@
-// Where a record or a panel is turned back: lines 1 to 13 of document 01's table, and the open calls that need nothing more than
+// Where a record or a panel is turned back: lines 1 to 13 and 16 of the papers' table, and the open calls that need nothing more than
 // a panel that keeps them. Every later call checks its panel by `calls::panel_refusal`.
 mod builds;
 pub mod calls;
@@ -10,10 +10,9 @@ use section::Section;
 // The last minute that a call may be asked for, and that a card gives.
 pub const LAST_MINUTE: u16 = 360;
 
-// What a record's bytes say beside its panel: which of lines 1, 2 and 6 fit, and whether line 10 fits by the record's length.
+// What a record's bytes say beside its panel: which of lines 1 and 6 fit, and whether line 10 fits by the record's length.
 pub struct ByteFaults {
     pub length: bool,
-    pub version: bool,
     pub board_count: bool,
     pub lamella_count: bool,
 }

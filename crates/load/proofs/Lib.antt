@@ -4,6 +4,8 @@ pub mod LoadMinutes
 pub mod WholeParts
 pub mod Closeness
 pub mod ExactFailure
+-- Several fires.
+pub mod EveryFire
 -- More exposure, the reserve, and unused places.
 pub mod Exposure
 pub mod Reserves

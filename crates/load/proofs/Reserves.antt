@@ -14,9 +14,12 @@ use mir.Syntax.{w32}
 use mir.Val.{SFits, toZ}
 use mir.Facts.{toZ-pos}
 use Rattle.panel.specs.declared.Panel.{Panel}
-use Rattle.load.specs.Failure.{TimePasses, PassesUpTo, IsLoadMinute}
+use Rattle.limits.specs.Refusals.{panelRefusal}
+use Rattle.load.specs.Failure.{EveryFirePasses, PassesUpTo}
+use Rattle.load.specs.LoadMinute.{printedLoad}
 use Rattle.load.specs.Answers.{reserveOf}
 use Rattle.load.proofs.WholeParts.{whole-exactly}
+use Rattle.load.proofs.EveryFire.{printed-close}
 
 difference : (a b : ℕ) → pos a -ℤ pos b ≡ subℕ a b
 difference a zero = ap pos (let e : a + 0 ≡ a - 0 = omega arith in e)
@@ -54,12 +57,12 @@ reserve-sign load wanted =
     by-cases (λ z. (pos 0 ≤ℤ z) ↔ (wanted ≤ load)) load wanted (λ l. (λ z. l, λ z. leZ-yes (le→leb 0 (load - wanted) (omega arith))))
     (λ l. (λ z. absurd (z .le), λ k. absurd (let e : ⊥ = omega arith in e)))
 
--- and so exactly when the panel passes through the wanted minute
-pub reserve-meaning : (p : Panel) (load wanted : ℕ) → IsLoadMinute p load → wanted ≤ 360
-    → (pos 0 ≤ℤ reserveOf wanted load) ↔ PassesUpTo (TimePasses p) wanted 1
-reserve-meaning p load wanted h k =
-    let sign = reserve-sign load wanted in
-    let exactly = whole-exactly (TimePasses p) 1 load h wanted k in
+-- and so, of an accepted panel, exactly when it passes through the wanted minute in every fire
+pub reserve-meaning : (p : Panel) (wanted : ℕ) → panelRefusal p ≡ 0 → wanted ≤ 360
+    → (pos 0 ≤ℤ reserveOf wanted (printedLoad p)) ↔ PassesUpTo (EveryFirePasses p) wanted 1
+reserve-meaning p wanted e k =
+    let sign = reserve-sign (printedLoad p) wanted in
+    let exactly = whole-exactly (EveryFirePasses p) 1 (printedLoad p) (printed-close p e .whole) wanted k in
     (λ z. exactly .0 (sign .0 z), λ all. sign .1 (exactly .1 all))
 
 -- Bits

@@ -9,15 +9,15 @@ use Rattle.load.specs.declared.LoadAnswer.{LoadAnswer}
 use Rattle.load.specs.declared.LoadAnswer.the-variants.{Minute, Refused}
 use Rattle.load.specs.declared.ReserveAnswer.{ReserveAnswer}
 use Rattle.load.specs.declared.ReserveAnswer.the-variants.{By, Refused as RefusedReserve}
-use Rattle.load.specs.LoadMinute.{loadMinute}
+use Rattle.load.specs.LoadMinute.{printedLoad}
 
 -- the load minute
 unfoldable pub loadAnswer : Panel → LoadAnswer
-loadAnswer p = answer (panelRefusal p) Refused (Minute (loadMinute p))
+loadAnswer p = answer (panelRefusal p) Refused (Minute (printedLoad p))
 
 -- "The reserve against a wanted minute is R minus it, negative where the panel falls short."
 abbrev pub reserveOf : ℕ → ℕ → ℤ
 reserveOf wanted load = pos load -ℤ pos wanted
 
 unfoldable pub reserveAnswer : Panel → ℕ → ReserveAnswer
-reserveAnswer p wanted = answer (minuteRefusal p wanted) RefusedReserve (By (reserveOf wanted (loadMinute p)))
+reserveAnswer p wanted = answer (minuteRefusal p wanted) RefusedReserve (By (reserveOf wanted (printedLoad p)))

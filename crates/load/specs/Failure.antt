@@ -4,6 +4,7 @@ use Prim.Native.Nat.{ℕ, _*_, _≤_, _<_}
 use mathlib.Core.Path.{_≡_}
 use mathlib.Core.Bool.{Bool, true}
 use Rattle.panel.specs.declared.Panel.{Panel}
+use Rattle.panel.specs.Faces.{fires, InEvery}
 use Rattle.section.specs.Tests.{depthPasses}
 use Rattle.limits.specs.Causes.{lastMinute}
 use Rattle.charring.specs.Depths.{tenthsAt}
@@ -12,9 +13,13 @@ use Rattle.charring.specs.Depths.{tenthsAt}
 abbrev pub EveryTenthPasses : (ℕ → Bool) → ℕ → Type 0
 EveryTenthPasses passes deepest = (depth : ℕ) → depth ≤ deepest → passes depth ≡ true
 
--- "A time passes when every tenth from 0 to its effective depth, rounded up, passes."
+-- "A time passes when every tenth from 0 to its effective depth, rounded up, passes." In the fire on the panel's first face
 abbrev pub TimePasses : Panel → ℕ → ℕ → Type 0
 TimePasses p n q = EveryTenthPasses (depthPasses p) (tenthsAt p n q)
+
+-- "when a time is taken to pass exactly when it passes in both fires": in every fire of the panel
+abbrev pub EveryFirePasses : Panel → ℕ → ℕ → Type 0
+EveryFirePasses p n q = InEvery (λ fire. TimePasses fire n q) (fires p)
 
 -- every time up to n/q passes; '"Up to" a time always takes that time in.' `Passes` says of a time whether it passes
 abbrev pub PassesUpTo : (ℕ → ℕ → Type 0) → ℕ → ℕ → Type 0
@@ -46,6 +51,6 @@ pub record IsWholePart (Passes : ℕ → ℕ → Type 0) (unit m : ℕ) : Type 0
   pub notAbove : NotAboveFailure Passes m unit
   pub greatest : (k : ℕ) → k ≤ lastMinute * unit → NotAboveFailure Passes k unit → k ≤ m
 
--- 01's load minute, R
+-- 01's load minute, R, of the fire on the panel's first face
 abbrev pub IsLoadMinute : Panel → ℕ → Type 0
 IsLoadMinute p m = IsWholePart (TimePasses p) 1 m

@@ -4,6 +4,7 @@ use Prim.Native.Nat.{ℕ, zero, suc, _*_}
 use mathlib.Core.Bool.{Bool, _&&_}
 use Rattle.numbers.specs.Largest.{largest}
 use Rattle.panel.specs.declared.Panel.{Panel}
+use Rattle.panel.specs.Faces.{fires, leastOf}
 use Rattle.section.specs.Tests.{depthPasses}
 use Rattle.limits.specs.Causes.{lastMinute}
 use Rattle.charring.specs.Depths.{tenthsAt}
@@ -22,6 +23,10 @@ timeTest p n q = everyFrom (depthPasses p) 0 (tenthsAt p n q)
 unfoldable pub wholePart : (ℕ → ℕ → Bool) → ℕ → ℕ
 wholePart test unit = largest (λ (m : ℕ). test m unit) (lastMinute * unit)
 
--- 01's load minute, R
+-- 01's load minute, R, of the fire on the panel's first face
 unfoldable pub loadMinute : Panel → ℕ
 loadMinute p = wholePart (timeTest p) 1
+
+-- the load minute that is answered and printed: "For 2 the printed minutes are the lesser of the two fires"
+abbrev pub printedLoad : Panel → ℕ
+printedLoad p = leastOf loadMinute (fires p)

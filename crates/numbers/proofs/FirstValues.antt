@@ -1,7 +1,7 @@
 -- Laws of `firsts`.
-use Prim.Native.Nat.{ℕ, zero, suc, _+_, _<_}
-use mathlib.Core.Path.{_≡_, refl, ap, ap₂, _∙_}
-use mathlib.Core.List.{List, [], _∷_, _++_}
+use Prim.Native.Nat.{ℕ, zero, suc, _+_, _-_, _<_}
+use mathlib.Core.Path.{_≡_, refl, sym, ap, ap₂, _∙_}
+use mathlib.Core.List.{List, [], _∷_, _++_, reverse, reverse-append}
 use native.Mathlib.Omega.{arith}
 use native.Mathlib.Numerals.{add-one}
 use native.Mathlib.Decide.{decLt}
@@ -42,3 +42,21 @@ module _ {A : Type 0} where
       (λ i h.
       let k : i < length l = omega (arith, length-firsts f (length l)) in
       getD-firsts f (length l) i d k ∙ e i k)
+
+  -- the first value, then those that follow
+  firsts-cons : (f : ℕ → A) (n : ℕ) → firsts f (suc n) ≡ f 0 ∷ firsts (λ (i : ℕ). f (suc i)) n
+  unfolding firsts
+  firsts-cons f zero = refl
+  firsts-cons f (suc n) = ap (λ (xs : List A). xs ++ (f (suc n) ∷ [])) (firsts-cons f n)
+
+  -- reversed they are the values from the last down
+  pub reverse-firsts : (f : ℕ → A) (n : ℕ) → reverse (firsts f n) ≡ firsts (λ (i : ℕ). f (n - suc i)) n
+  unfolding firsts
+  reverse-firsts f zero = refl
+  reverse-firsts f (suc n) =
+      reverse-append (firsts f n) (f n ∷ [])
+      ∙ ap₂ (λ (k : ℕ) (xs : List A). f k ∷ xs) (let e : n ≡ suc n - 1 = omega arith in e)
+      (reverse-firsts f n
+      ∙ firsts-agree (λ (i : ℕ). f (n - suc i)) (λ (i : ℕ). f (suc n - suc (suc i))) n
+      (λ i h. ap f (let e : n - suc i ≡ suc n - suc (suc i) = omega arith in e)))
+      ∙ sym (firsts-cons (λ (i : ℕ). f (suc n - suc i)) n)

@@ -1,4 +1,5 @@
--- Same build: the test says that what it compares is equal, and panels of the same build differ at most in strength and moment.
+-- Same build: the test says that what it compares is equal, and panels of the same build differ at most in version,
+-- strength and moment.
 use Prim.Native.Nat.{ℕ}
 use mathlib.Core.Path.{_≡_, refl, sym, ap, ap₂, _∙_}
 use mathlib.Core.Logic.{_↔_}
@@ -20,7 +21,7 @@ use Rattle.panel.specs.Builds.{
   sameLamellae,
   sameBuild,
   SameBuild,
-  withLoad,
+  withUncompared,
 }
 
 -- of tests joined by "and", each holds
@@ -91,7 +92,7 @@ cladding-back (Two outer inner) = refl
 boards-tell : (x y : Cladding) → boardsOf x ≡ boardsOf y → x ≡ y
 boards-tell x y e = sym (cladding-back x) ∙ ap claddingOf e ∙ cladding-back y
 
--- "EXACTLY WHEN": the test passes exactly where boards, lamellae, bond, rate, gap and failure time are equal
+-- "EXACTLY WHEN": the test passes exactly where boards, lamellae, face, bond, rate, gap and failure time are equal
 
 pub same-exactly : (a b : Panel) → (sameBuild a b ≡ true) ↔ SameBuild a b
 same-exactly a b = (says, passes)
@@ -101,6 +102,7 @@ same-exactly a b = (says, passes)
         record {
           boards = ap boardsOf (cladding-equal (a .cladding) (b .cladding) (search joined));
           lamellae = lamellae-equal (lamellae a) (lamellae b) (search joined);
+          face = eqb-true (a .face) (b .face) (search joined);
           bond = eqb-true (a .bond) (b .bond) (search joined);
           rate = eqb-true (a .rate) (b .rate) (search joined);
           gap = eqb-true (a .gap) (b .gap) (search joined);
@@ -114,6 +116,7 @@ same-exactly a b = (says, passes)
           h .lamellae,
           cladding-itself (b .cladding),
           lamellae-themselves (lamellae b),
+          eq-eqb (a .face) (b .face) (h .face),
           eq-eqb (a .bond) (b .bond) (h .bond),
           eq-eqb (a .rate) (b .rate) (h .rate),
           eq-eqb (a .gap) (b .gap) (h .gap),
@@ -123,13 +126,14 @@ same-exactly a b = (says, passes)
 -- An equivalence
 
 pub build-reflexive : (p : Panel) → SameBuild p p
-build-reflexive p = record { boards = refl; lamellae = refl; bond = refl; rate = refl; gap = refl; «failure_time» = refl }
+build-reflexive p = record { boards = refl; lamellae = refl; face = refl; bond = refl; rate = refl; gap = refl; «failure_time» = refl }
 
 pub build-symmetric : (a b : Panel) → SameBuild a b → SameBuild b a
 build-symmetric a b h =
     record {
       boards = sym (h .boards);
       lamellae = sym (h .lamellae);
+      face = sym (h .face);
       bond = sym (h .bond);
       rate = sym (h .rate);
       gap = sym (h .gap);
@@ -141,18 +145,21 @@ build-transitive a b c h k =
     record {
       boards = h .boards ∙ k .boards;
       lamellae = h .lamellae ∙ k .lamellae;
+      face = h .face ∙ k .face;
       bond = h .bond ∙ k .bond;
       rate = h .rate ∙ k .rate;
       gap = h .gap ∙ k .gap;
       «failure_time» = h .«failure_time» ∙ k .«failure_time»;
     }
 
--- Panels of the same build differ at most in strength and moment, and in their unused places
+-- Panels of the same build differ at most in version, strength and moment, and in their unused places
 
-pub same-but-load : (a b : Panel) → SameBuild a b → SameUsed (withLoad a (b .strength) (b .moment)) b
-same-but-load a b h =
+pub same-but-uncompared : (a b : Panel) → SameBuild a b → SameUsed (withUncompared a (b .version) (b .strength) (b .moment)) b
+same-but-uncompared a b h =
     let cladding = boards-tell (a .cladding) (b .cladding) (h .boards) in
     λ i. record {
+      version = b .version;
+      face = h .face i;
       bond = h .bond i;
       rate = h .rate i;
       gap = h .gap i;
@@ -165,9 +172,11 @@ same-but-load a b h =
       thicknesses = thicknessesOf (h .lamellae i);
     }
 
--- what looks neither at these two nor at unused places is the same for panels of the same build
+-- what looks neither at these three nor at unused places is the same for panels of the same build
 pub same-shared {ℓ} :
     {A : Type ℓ} (f : Panel → A) → ((p q : Panel) → SameUsed p q → f p ≡ f q)
-    → ((p : Panel) (strength moment : ℕ) → f (withLoad p strength moment) ≡ f p) → (a b : Panel) → SameBuild a b → f a ≡ f b
-same-shared f unused load a b h =
-    sym (load a (b .strength) (b .moment)) ∙ unused (withLoad a (b .strength) (b .moment)) b (same-but-load a b h)
+    → ((p : Panel) (version strength moment : ℕ) → f (withUncompared p version strength moment) ≡ f p)
+    → (a b : Panel) → SameBuild a b → f a ≡ f b
+same-shared f unused rest a b h =
+    sym (rest a (b .version) (b .strength) (b .moment))
+    ∙ unused (withUncompared a (b .version) (b .strength) (b .moment)) b (same-but-uncompared a b h)

@@ -1,5 +1,6 @@
 -- Same build, a term of document 01. Document 02, 2/14: "two panels are the same build exactly when boards and lamellae and also bond,
--- rate, gap and failure time agree. Strength and moment still don't count."
+-- rate, gap and failure time agree. Strength and moment still don't count." And 3/14: "Panels of different face are different builds; the
+-- version isn't looked at."
 use Prim.Native.Nat.{ℕ}
 use mathlib.Core.Path.{_≡_}
 use mathlib.Core.List.{List, [], _∷_}
@@ -41,10 +42,11 @@ sameLamellae (x ∷ xs) (y ∷ ys) = sameLamella x y && sameLamellae xs ys
 abbrev pub sameLayers : Panel → Panel → Bool
 sameLayers a b = sameCladding (a .cladding) (b .cladding) && sameLamellae (lamellae a) (lamellae b)
 
--- "bond, rate, gap and failure time agree": the failure time that was given
+-- "bond, rate, gap and failure time agree", the failure time that was given; and the face
 abbrev pub sameNumbers : Panel → Panel → Bool
 sameNumbers a b =
-    eqb (a .bond) (b .bond)
+    eqb (a .face) (b .face)
+    && eqb (a .bond) (b .bond)
     && eqb (a .rate) (b .rate)
     && eqb (a .gap) (b .gap)
     && eqb (a .«failure_time») (b .«failure_time»)
@@ -52,19 +54,22 @@ sameNumbers a b =
 abbrev pub sameBuild : Panel → Panel → Bool
 sameBuild a b = sameLayers a b && sameNumbers a b
 
--- what the test says: the boards are the same list, the lamellae are, and the four numbers are equal
+-- what the test says: the boards are the same list, the lamellae are, and the five numbers are equal
 pub record SameBuild (a b : Panel) : Type 0 where
   pub boards : boardsOf (a .cladding) ≡ boardsOf (b .cladding)
   pub lamellae : Rattle.panel.specs.Lamellae.lamellae a ≡ Rattle.panel.specs.Lamellae.lamellae b
+  pub face : a .face ≡ b .face
   pub bond : a .bond ≡ b .bond
   pub rate : a .rate ≡ b .rate
   pub gap : a .gap ≡ b .gap
   pub «failure_time» : a .«failure_time» ≡ b .«failure_time»
 
--- a panel of another strength under another moment: nothing else of it changes
-abbrev pub withLoad : Panel → ℕ → ℕ → Panel
-withLoad p strength moment =
+-- a panel of another version and another strength under another moment, which are not compared: nothing else of it changes
+abbrev pub withUncompared : Panel → ℕ → ℕ → ℕ → Panel
+withUncompared p version strength moment =
     record {
+      version = version;
+      face = p .face;
       bond = p .bond;
       rate = p .rate;
       gap = p .gap;

@@ -41,6 +41,8 @@ thicknessesOf ls = nine (map (λ (l : Lamella). l .thickness) ls)
 abbrev pub withLamellae : Panel → List Lamella → Panel
 withLamellae p ls =
     record {
+      version = p .version;
+      face = p .face;
       bond = p .bond;
       rate = p .rate;
       gap = p .gap;

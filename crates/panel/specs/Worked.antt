@@ -8,10 +8,12 @@ use Rattle.panel.specs.declared.Cladding.the-variants.{Unclad, One}
 use Rattle.panel.specs.declared.Panel.{Panel}
 use Rattle.panel.specs.Lamellae.{Lamella, lamella, directionsOf, thicknessesOf}
 
--- a panel from its numbers in the record's order (bond, β, gap, f, M, failure time), its boards and its lamellae
+-- a panel of record version 1 from its numbers in the record's order (bond, β, gap, f, M, failure time), its boards and its lamellae
 abbrev pub panelWith : ℕ → ℕ → ℕ → ℕ → ℕ → ℕ → Cladding → List Lamella → Panel
 panelWith bond rate gap f m failure boards ls =
     record {
+      version = 1;
+      face = 0;
       bond = bond;
       rate = rate;
       gap = gap;
@@ -22,6 +24,24 @@ panelWith bond rate gap f m failure boards ls =
       count = length ls;
       directions = directionsOf ls;
       thicknesses = thicknessesOf ls;
+    }
+
+-- a panel in record version 2, with the fire on a face
+abbrev pub onFace : ℕ → Panel → Panel
+onFace face p =
+    record {
+      version = 2;
+      face = face;
+      bond = p .bond;
+      rate = p .rate;
+      gap = p .gap;
+      strength = p .strength;
+      moment = p .moment;
+      «failure_time» = p .«failure_time»;
+      cladding = p .cladding;
+      count = p .count;
+      directions = p .directions;
+      thicknesses = p .thicknesses;
     }
 
 -- "30 along, 40 across, 30 along (mm)"

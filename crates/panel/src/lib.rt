@@ -1,6 +1,7 @@
-// The panel of document 01: lamellae, boards and load, and what follows from the boards alone, the start of charring.
-// A panel is plain data: what limits it keeps is the matter of the crate `limits`.
+// The panel of document 01: lamellae, boards and load, the face that the fire is on, and what follows from the boards alone, the start
+// of charring. A panel is plain data: what limits it keeps is the matter of the crate `limits`.
 pub mod boards;
+pub mod faces;
 pub mod materials;
 pub mod timber;
 
@@ -29,10 +30,12 @@ pub enum Cladding {
     Two(Board, Board),
 }
 
-// The rate is in hundredths of mm/min, the strength in tenths of N/mm², the moment in N·m per metre of width, the failure time
+// The version is that of its record. The face is 0 for a fire on the first face, 1 on the last, 2 on each alone. The rate is in hundredths of mm/min, the strength in tenths of N/mm², the moment in N·m per metre of width, the failure time
 // in thousandths of a minute. Lamella i, from the exposed face, has its direction (0 across, 1 along) and its thickness (tenths
 // of mm) at place i of the arrays. Places from `count` on are unused.
 pub struct Panel {
+    pub version: u8,
+    pub face: u8,
     pub bond: u8,
     pub rate: u8,
     pub gap: u8,

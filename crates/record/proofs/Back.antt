@@ -25,6 +25,7 @@ use Rattle.record.specs.Layouts.{
   countPlace,
   lamellaPlace,
   lengthWith,
+  versionOf,
   body,
   headOf,
   boardCount,
@@ -71,25 +72,28 @@ lamellae-back u h (suc n) =
     ∙ ap (places u 0) (sym (mul-suc lamellaLength n))
 
 -- a record with c boards and n lamellae, part by part
-parts : (b : List ℕ) (c n : ℕ) → length b ≡ lengthWith c n
-    → places b 0 frontLength
-    ++ (places b frontLength headLength
-    ++ (places b (frontLength + headLength) (boardLength * c)
-    ++ (places b (countPlace c) countLength ++ places b (lamellaPlace c) (lamellaLength * n))))
+parts : (b : List ℕ) (version c n : ℕ) → length b ≡ lengthWith version c n
+    → places b 0 (frontLength version)
+    ++ (places b (frontLength version) headLength
+    ++ (places b (frontLength version + headLength) (boardLength * c)
+    ++ (places b (countPlace version c) countLength ++ places b (lamellaPlace version c) (lamellaLength * n))))
     ≡ b
-parts b c n e =
+parts b version c n e =
+    let front : ℕ = frontLength version in
+    let count : ℕ = countPlace version c in
     let tail : ℕ = countLength + lamellaLength * n in
     let rest : ℕ = boardLength * c + tail in
-    let after : lamellaPlace c ≡ countPlace c + countLength = omega arith in
-    let whole : frontLength + (headLength + rest) ≡ length b = omega arith in
-    ap (λ (xs : List ℕ). places b 0 frontLength ++ xs)
-    (ap (λ (xs : List ℕ). places b frontLength headLength ++ xs)
-    (ap (λ (xs : List ℕ). places b (frontLength + headLength) (boardLength * c) ++ xs)
-    (ap (λ (k : ℕ). places b (countPlace c) countLength ++ places b k (lamellaLength * n)) after
-    ∙ sym (places-append b (countPlace c) countLength (lamellaLength * n)))
-    ∙ sym (places-append b (frontLength + headLength) (boardLength * c) tail))
-    ∙ sym (places-append b frontLength headLength rest))
-    ∙ sym (places-append b 0 frontLength (headLength + rest))
+    let after : lamellaPlace version c ≡ count + countLength = omega arith in
+    let whole : front + (headLength + rest) ≡ length b = omega arith in
+    ap (λ (xs : List ℕ). places b 0 front ++ xs)
+    (ap (λ (xs : List ℕ). places b front headLength ++ xs)
+    (ap (λ (xs : List ℕ). places b (front + headLength) (boardLength * c) ++ xs)
+    (ap (λ (k : ℕ). places b count countLength ++ places b k (lamellaLength * n)) after
+    ∙ sym (places-append b count countLength (lamellaLength * n)))
+    ∙ sym (places-append b (front + headLength) (boardLength * c) tail))
+    ∙ sym (places-append b front headLength rest))
+    ∙ ap (λ (k : ℕ). places b 0 front ++ places b k (headLength + rest)) (sym (zero-add front))
+    ∙ sym (places-append b 0 front (headLength + rest))
     ∙ ap (places b 0) whole
     ∙ places-all b
 
@@ -101,24 +105,26 @@ head-back b h = rw (boards-counted (boardCount b) (body b) h) refl
 pub encode-back : (b : List ℕ) → AreBytes b → Sound b → encode (panelOf b) ≡ b
 unfolding encode panelOf places
 encode-back b h s =
+    let v = versionOf b in
     let c = boardCount b in
     let n = lamellaCount b in
     let t = body b in
-    let front : join frontWidths (frontNumbers (panelOf b)) ≡ places b 0 frontLength =
-    ap (join frontWidths) (s .front) ∙ join-fields frontWidths b h 0
+    let front : join (frontWidths v) (frontNumbers (panelOf b)) ≡ places b 0 (frontLength v) =
+    ap (join (frontWidths v)) (s .front) ∙ join-fields (frontWidths v) b h 0
     in
-    let head : join headWidths (headNumbers (panelOf b)) ≡ places b frontLength headLength =
+    let head : join headWidths (headNumbers (panelOf b)) ≡ places b (frontLength v) headLength =
     ap (join headWidths) (head-back b (s .boards))
-    ∙ join-fields headWidths t (drop-bytes b h frontLength) 0
-    ∙ places-drop b frontLength 0 headLength
+    ∙ join-fields headWidths t (drop-bytes b h (frontLength v)) 0
+    ∙ places-drop b (frontLength v) 0 headLength
+    ∙ ap (λ (k : ℕ). places b k headLength) (add-zero (frontLength v))
     in
-    let boards : boardBytes (boardsOf (claddingAt c t)) ≡ places b (frontLength + headLength) (boardLength * c) =
-    boards-back c t (drop-bytes b h frontLength) (s .boards) ∙ places-drop b frontLength headLength (boardLength * c)
+    let boards : boardBytes (boardsOf (claddingAt c t)) ≡ places b ((frontLength v) + headLength) (boardLength * c) =
+    boards-back c t (drop-bytes b h (frontLength v)) (s .boards) ∙ places-drop b (frontLength v) headLength (boardLength * c)
     in
-    let lamellae : lamellaBytes (Lamellae.lamellae (panelOf b)) ≡ places b (lamellaPlace c) (lamellaLength * n) =
+    let lamellae : lamellaBytes (Lamellae.lamellae (panelOf b)) ≡ places b (lamellaPlace v c) (lamellaLength * n) =
     ap lamellaBytes (record-lamellae b (s .count))
-    ∙ lamellae-back (lamellaPart b) (drop-bytes b h (lamellaPlace c)) n
-    ∙ places-drop b (lamellaPlace c) 0 (lamellaLength * n)
-    ∙ ap (λ (k : ℕ). places b k (lamellaLength * n)) (add-zero (lamellaPlace c))
+    ∙ lamellae-back (lamellaPart b) (drop-bytes b h (lamellaPlace v c)) n
+    ∙ places-drop b (lamellaPlace v c) 0 (lamellaLength * n)
+    ∙ ap (λ (k : ℕ). places b k (lamellaLength * n)) (add-zero (lamellaPlace v c))
     in
-    (λ i. front i ++ (head i ++ (boards i ++ (places b (countPlace c) countLength ++ lamellae i)))) ∙ parts b c n (s .whole)
+    (λ i. front i ++ (head i ++ (boards i ++ (places b (countPlace v c) countLength ++ lamellae i)))) ∙ parts b v c n (s .whole)

@@ -1,6 +1,5 @@
--- Lengths and arrays.
+-- Lengths.
 pub mod Lengths
-pub mod Arrays
 -- What an accepted record says, and that the record of an accepted panel is accepted.
 pub mod Sound
 pub mod Accepting

@@ -20,7 +20,7 @@ use Rattle.record.proofs.Lengths.{length-encode}
 use Rattle.record.proofs.Writes.{write-taken, write-accepted}
 use Rattle.record.proofs.Sound.{accepted-sound, record-panel}
 use Rattle.record.proofs.There.{panel-there}
-use Rattle.record.proofs.Accepting.{encode-accepted}
+use Rattle.record.proofs.Accepting.{zero-else, encode-accepted}
 use Rattle.record.proofs.Back.{encode-back}
 
 -- a panel's record is read as the panel with its unused places 0
@@ -28,7 +28,7 @@ pub decode-encode : (p : Panel) → panelRefusal p ≡ 0 → decode (encode p) �
 unfolding decode
 decode-encode p e =
     sym (answered (recordRefusal (encode p)) (λ (n : ℕ). reading n blank) (reading 0 (panelOf (encode p))) (encode-accepted p e))
-    ∙ ap (reading 0) (panel-there p (accepted-fits p e .count))
+    ∙ ap (reading 0) (panel-there p (accepted-fits p e .count) (zero-else p e))
 
 -- Reading what was written gives the panel with its unused places 0: for every panel and space that the writer takes, reading
 -- the bytes that it says it wrote.

@@ -2,13 +2,14 @@
 use Prim.Native.Nat.{ℕ, zero, suc, _≤_, _<_, min}
 use mathlib.Core.Path.{_≡_, refl, sym, ap, _∙_}
 use mathlib.Core.List.{List, [], _∷_}
-use mathlib.Core.Bool.{not}
+use mathlib.Core.Bool.{Bool, true, false, not}
 use native.Mathlib.Omega.{arith}
 use borrow.Author.Tests.{ltb-false, lt-ltb, le-ltb, eqb-true, not-false}
 use lib.ListN.{length, getD}
 use lib.Dec.{ltb, eqb}
 use mathlib.Core.Logic.{_↔_}
 use Rattle.numbers.specs.Choice.{outside}
+use Rattle.numbers.specs.Bytes.{fields}
 use Rattle.panel.specs.Lamellae.{lamellae, lamellaeOf, directionsOf, thicknessesOf}
 use Rattle.panel.proofs.Used.{lamellae-with}
 use Rattle.limits.specs.Lines.{NoneFits, First}
@@ -19,9 +20,11 @@ use Rattle.limits.proofs.Accepted.{table-accepted}
 use Rattle.numbers.proofs.Booleans.{or-none, in-range}
 use Rattle.panel.specs.Boards.{boardsOf}
 use Rattle.record.specs.Layouts.{
+  onlyIf,
   lengthWith,
   shortest,
   longest,
+  versionOf,
   frontOf,
   body,
   boardCount,
@@ -34,14 +37,14 @@ use Rattle.record.specs.Layouts.{
   frontNumbers,
 }
 use Rattle.record.specs.Refusals.{badWhole, byteFaults, recordLines, recordRefusal}
-use Rattle.record.proofs.Arrays.{length-lamellaeIn}
+use Rattle.record.proofs.Lengths.{length-lamellaeIn}
 
 -- the bytes of an accepted record
 pub record Sound (b : List ℕ) : Type 0 where
   pub front : frontNumbers (panelOf b) ≡ frontOf b
   pub boards : boardCount b ≤ 2
   pub count : lamellaCount b ≤ 9
-  pub whole : length b ≡ lengthWith (boardCount b) (lamellaCount b)
+  pub whole : length b ≡ lengthWith (versionOf b) (boardCount b) (lamellaCount b)
 
 -- a record is accepted exactly when no line about it fits, and a refusal is the first line that does
 pub record-accepted-iff : (b : List ℕ) → (recordRefusal b ≡ 0) ↔ NoneFits (recordLines b)
@@ -64,27 +67,31 @@ boards-counted (suc zero) t h = refl
 boards-counted (suc (suc zero)) t h = refl
 boards-counted (suc (suc (suc c))) t h = absurd (let z : ⊥ = omega arith in z)
 
+-- the face that is written is the one that was read, in version 2 alone
+face-told : (t : Bool) (b : List ℕ) (x y : ℕ) → onlyIf t (getD (x ∷ y ∷ fields (onlyIf t (1 ∷ [])) b 3) 2 0 ∷ []) ≡ fields (onlyIf t (1 ∷ [])) b 3
+face-told true b x y = refl
+face-told false b x y = refl
+
 -- an accepted record meets no line, so that its bytes are sound
 pub accepted-sound : (b : List ℕ) → recordRefusal b ≡ 0 → Sound b
 unfolding recordRefusal panelOf
 accepted-sound b e =
     let none = cause-none (recordLines b) tt e in
     let said : ℕ = getD (frontOf b) 0 0 in
-    let version : ℕ = getD (frontOf b) 1 0 in
-    let whole : ℕ = lengthWith (boardCount b) (lamellaCount b) in
+    let version = versionOf b in
+    let whole : ℕ = lengthWith version (boardCount b) (lamellaCount b) in
     let one = or-none (outside shortest longest (length b)) (not (eqb said (length b))) (none 1) in
-    let six = or-none (ltb 2 (boardCount b)) (ltb (length b) (lengthWith (boardCount b) 1)) (none 6) in
+    let six = or-none (ltb 2 (boardCount b)) (ltb (length b) (lengthWith version (boardCount b) 1)) (none 6) in
     let ten = or-none (badWhole b) (badCount (lamellaCount b)) (none 10) in
     let same : length b ≡ whole = eqb-true (length b) whole (not-false (eqb (length b) whole) (ten .0)) in
     let boards : boardCount b ≤ 2 = ltb-false 2 (boardCount b) (six .0) in
     let length-said : recordLength (panelOf b) ≡ said =
-    ap (λ (c : ℕ). lengthWith c (lamellaCount b)) (boards-counted (boardCount b) (body b) boards)
+    ap (λ (c : ℕ). lengthWith version c (lamellaCount b)) (boards-counted (boardCount b) (body b) boards)
     ∙ sym same
     ∙ sym (eqb-true said (length b) (not-false (eqb said (length b)) (one .1)))
     in
-    let one-said : 1 ≡ version = sym (eqb-true version 1 (not-false (eqb version 1) (none 2))) in
     record {
-      front = λ i. length-said i ∷ one-said i ∷ [];
+      front = λ i. length-said i ∷ version ∷ face-told (eqb version 2) b said version i;
       boards = boards;
       count = in-range 1 9 (lamellaCount b) (ten .1) .1;
       whole = same;

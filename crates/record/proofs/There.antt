@@ -2,7 +2,9 @@
 use Prim.Native.Nat.{ℕ, zero, suc, _+_, _*_, _<_, _≤_, min}
 use mathlib.Core.Path.{_≡_, refl, sym, ap, ap₂, _∙_}
 use mathlib.Core.List.{List, [], _∷_, _++_, append-assoc}
+use mathlib.Core.Bool.{Bool, true, false}
 use native.Mathlib.Omega.{arith}
+use lib.Dec.{eqb}
 use lib.ListN.{length, getD, drop, length-append}
 use lib.Seq.{drop-at}
 use Rattle.numbers.specs.Bytes.{fields, join}
@@ -16,6 +18,7 @@ use Rattle.panel.specs.Lamellae.{Lamella, lamella, lamellae, cleared}
 use Rattle.panel.proofs.Used.{count-cleared}
 use Rattle.panel.specs.Boards.{boardsOf}
 use Rattle.record.specs.Layouts.{
+  onlyIf,
   frontWidths,
   headWidths,
   boardWidths,
@@ -27,6 +30,7 @@ use Rattle.record.specs.Layouts.{
   lamellaLength,
   countPlace,
   lamellaPlace,
+  versionOf,
   frontOf,
   body,
   headOf,
@@ -43,6 +47,7 @@ use Rattle.record.specs.Layouts.{
   arraysOf,
   panelFrom,
   panelOf,
+  recordLength,
   frontNumbers,
   headNumbers,
   boardNumbers,
@@ -52,7 +57,7 @@ use Rattle.record.specs.Layouts.{
   tailBytes,
   encode,
 }
-use Rattle.record.proofs.Lengths.{length-boardBytes}
+use Rattle.record.proofs.Lengths.{front-filled, length-front, length-boardBytes}
 
 -- Parts
 
@@ -99,7 +104,7 @@ cladding-there (Two outer inner) head after e =
 
 module _ (p : Panel) where
   abbrev front : List ℕ
-  front = join frontWidths (frontNumbers p)
+  front = join (frontWidths (p .version)) (frontNumbers p)
 
   abbrev head : List ℕ
   head = join headWidths (headNumbers p)
@@ -111,20 +116,25 @@ module _ (p : Panel) where
   abbrev before : List ℕ
   before = front ++ (head ++ boards)
 
-  length-before : length before ≡ countPlace (length (boardsOf (p .cladding)))
-  length-before = omega (arith, length-boardBytes (boardsOf (p .cladding)))
+  length-before : length before ≡ countPlace (p .version) (length (boardsOf (p .cladding)))
+  length-before = simp length-append (omega (arith, length-front p, length-boardBytes (boardsOf (p .cladding))))
 
   encode-before : encode p ≡ before ++ tailBytes p
   unfolding encode
-  encode-before = simp append-assoc
+  encode-before =
+      sym (append-assoc front (head ++ boards) (tailBytes p) ∙ ap (λ (xs : List ℕ). front ++ xs) (append-assoc head boards (tailBytes p)))
+
+  pub version-there : versionOf (encode p) ≡ p .version
+  unfolding encode
+  version-there = refl
 
   pub front-there : frontOf (encode p) ≡ frontNumbers p
   unfolding encode
-  front-there = fields-join frontWidths (frontNumbers p) (head ++ (boards ++ tailBytes p)) tt
+  front-there = fields-join (frontWidths (p .version)) (frontNumbers p) (head ++ (boards ++ tailBytes p)) (front-filled p)
 
   body-there : body (encode p) ≡ head ++ (boards ++ tailBytes p)
   unfolding encode
-  body-there = drop-at front (head ++ (boards ++ tailBytes p)) frontLength (length-join frontWidths (frontNumbers p) tt)
+  body-there = drop-at front (head ++ (boards ++ tailBytes p)) (frontLength (p .version)) (length-front p)
 
   head-there : headOf (encode p) ≡ headNumbers p
   head-there =
@@ -140,8 +150,8 @@ module _ (p : Panel) where
 
   pub count-there : lamellaCount (encode p) ≡ p .count
   count-there =
-      let at : countPlace (length (boardsOf (p .cladding))) ≡ length before + 0 = omega (arith, length-before) in
-      ap₂ (λ (b : List ℕ) (c : ℕ). getD (fields countWidths b (countPlace c)) 0 0) encode-before board-count-there
+      let at : countPlace (p .version) (length (boardsOf (p .cladding))) ≡ length before + 0 = omega (arith, length-before) in
+      (λ i. getD (fields countWidths (encode-before i) (countPlace (version-there i) (board-count-there i))) 0 0)
       ∙ ap (λ (vs : List ℕ). getD vs 0 0)
       (ap (fields countWidths (before ++ tailBytes p)) at
       ∙ fields-after countWidths before (tailBytes p) 0
@@ -150,9 +160,10 @@ module _ (p : Panel) where
   part-there : lamellaPart (encode p) ≡ lamellaBytes (lamellae p)
   part-there =
       let count : List ℕ = join countWidths (p .count ∷ []) in
-      ap₂ (λ (b : List ℕ) (c : ℕ). drop (lamellaPlace c) b)
-      (encode-before ∙ sym (append-assoc before count (lamellaBytes (lamellae p)))) board-count-there
-      ∙ drop-at (before ++ count) (lamellaBytes (lamellae p)) (lamellaPlace (length (boardsOf (p .cladding))))
+      let parts : encode p ≡ (before ++ count) ++ lamellaBytes (lamellae p) =
+      encode-before ∙ sym (append-assoc before count (lamellaBytes (lamellae p))) in
+      (λ i. drop (lamellaPlace (version-there i) (board-count-there i)) (parts i))
+      ∙ drop-at (before ++ count) (lamellaBytes (lamellae p)) (lamellaPlace (p .version) (length (boardsOf (p .cladding))))
       (length-append before count ∙ omega (arith, length-before))
 
   record-lamellae-there : p .count ≤ 9 → recordLamellae (encode p) ≡ lamellae p
@@ -160,8 +171,17 @@ module _ (p : Panel) where
       let least : min (p .count) 9 ≡ p .count = omega arith in
       ap₂ lamellaeIn part-there (ap (λ (n : ℕ). min n 9) count-there ∙ least ∙ sym (count-cleared p)) ∙ lamellae-there (lamellae p)
 
-  pub panel-there : p .count ≤ 9 → panelOf (encode p) ≡ cleared p
+  -- the face, of which version 1 says nothing
+  face-there : (t : Bool) → (t ≡ false → p .face ≡ 0) → getD (recordLength p ∷ p .version ∷ onlyIf t (p .face ∷ [])) 2 0 ≡ p .face
+  face-there true zero-else = refl
+  face-there false zero-else = sym (zero-else refl)
+
+  pub panel-there : p .count ≤ 9 → (eqb (p .version) 2 ≡ false → p .face ≡ 0) → panelOf (encode p) ≡ cleared p
   unfolding panelOf
-  panel-there h =
-      λ i.
-      panelFrom (head-there i) (boards-there i) ((count-there ∙ sym (count-cleared p)) i) (arraysOf (record-lamellae-there h i))
+  panel-there h zero-else =
+      (λ i.
+      panelFrom (front-there i) (head-there i) (boards-there i) ((count-there ∙ sym (count-cleared p)) i) (arraysOf (record-lamellae-there h i)))
+      ∙ ap
+      (λ (face : ℕ).
+      panelFrom (recordLength p ∷ p .version ∷ face ∷ []) (headNumbers p) (p .cladding) (cleared p .count) (arraysOf (lamellae p)))
+      (face-there (eqb (p .version) 2) zero-else)

@@ -27,28 +27,39 @@ use Rattle.record.specs.Worked.{gBytes}
 
 -- Lengths and places
 
-pub front-is : frontLength ≡ 3
+pub front-is : frontLength 1 ≡ 3
 front-is = refl
+
+-- "a face byte after the version"
+pub front-with-face : frontLength 2 ≡ 4
+front-with-face = refl
 
 pub head-is : headLength ≡ 14
 head-is = refl
 
 -- where n stands without boards
-pub count-place-is : countPlace 0 ≡ 17
+pub count-place-is : countPlace 1 0 ≡ 17
 count-place-is = refl
 
--- "A slice part from 18 + 4c"
-pub lamella-place-is : (c : ℕ) → lamellaPlace c ≡ 18 + 4 * c
+-- "A slice part from 18 + 4c", in version 2 from 19 + 4c
+pub lamella-place-is : (c : ℕ) → lamellaPlace 1 c ≡ 18 + 4 * c
 lamella-place-is c = refl
 
--- "The length is 18 + 4c + 3n, from 21 to 53."
-pub length-is : (c n : ℕ) → lengthWith c n ≡ 18 + 4 * c + 3 * n
+pub lamella-place-2 : (c : ℕ) → lamellaPlace 2 c ≡ 19 + 4 * c
+lamella-place-2 c = refl
+
+-- "The length is 18 + 4c + 3n"; "Records are one byte longer"
+pub length-is : (c n : ℕ) → lengthWith 1 c n ≡ 18 + 4 * c + 3 * n
 length-is c n = refl
 
+pub length-2 : (c n : ℕ) → lengthWith 2 c n ≡ 19 + 4 * c + 3 * n
+length-2 c n = refl
+
+-- "fewer than 21 or more than 54"
 pub shortest-is : shortest ≡ 21
 shortest-is = refl
 
-pub longest-is : longest ≡ 53
+pub longest-is : longest ≡ 54
 longest-is = refl
 
 -- The record of G

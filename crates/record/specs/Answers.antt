@@ -14,7 +14,7 @@ use Rattle.record.specs.Refusals.{recordRefusal, writeRefusal}
 
 -- the panel that stands beside a refusal: every number 0, no board, no lamella
 abbrev pub blank : Panel
-blank = panelFrom [] Unclad 0 (arraysOf [])
+blank = panelFrom [] [] Unclad 0 (arraysOf [])
 
 -- the answer of `read`: a refusal's number stands beside the blank panel
 abbrev pub reading : ℕ → Panel → Reading

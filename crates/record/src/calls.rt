@@ -16,6 +16,8 @@ fn blank_panel() -> Panel
     ensures { λ r. ⌜ r ≡ blank ⌝ }
 {
     Panel {
+        version: 0,
+        face: 0,
         bond: 0,
         rate: 0,
         gap: 0,

@@ -2,11 +2,11 @@
 use crate::layout;
 use crate::reader::board_count;
 use crate::reader::lamella_count;
+use crate::reader::version_of;
 use limits::ByteFaults;
-use numbers::bytes::get8;
 use numbers::bytes::get16;
 ghost use mathlib.Core.Path.{_≡_};
-ghost use Rattle.record.specs.Refusals.{badLength, badVersion, badBoardCount, badWhole, byteFaults};
+ghost use Rattle.record.specs.Refusals.{badLength, badBoardCount, badWhole, byteFaults};
 
 fn bad_length(s: &[u8]) -> bool
     ensures { λ r. ⌜ r ≡ badLength (now (s .entry)) ⌝ }
@@ -15,17 +15,11 @@ fn bad_length(s: &[u8]) -> bool
     ((n < layout::SHORTEST) | (layout::LONGEST < n)) | !(get16(s, layout::LENGTH) as usize == n)
 }
 
-fn bad_version(s: &[u8]) -> bool
-    ensures { λ r. ⌜ r ≡ badVersion (now (s .entry)) ⌝ }
-{
-    !(get8(s, layout::VERSION) == 1)
-}
-
 fn bad_board_count(s: &[u8]) -> bool
     ensures { λ r. ⌜ r ≡ badBoardCount (now (s .entry)) ⌝ }
 {
     let c = board_count(s);
-    (2 < c) | (s.len() < layout::length_with(c, 1))
+    (2 < c) | (s.len() < layout::length_with(version_of(s), c, 1))
 }
 
 fn bad_whole(s: &[u8]) -> bool
@@ -33,7 +27,7 @@ fn bad_whole(s: &[u8]) -> bool
 {
     let c = board_count(s);
     let n = lamella_count(s);
-    !(s.len() == layout::length_with(c, n))
+    !(s.len() == layout::length_with(version_of(s), c, n))
 }
 
 // What the bytes say beside the panel that stands in them.
@@ -42,7 +36,6 @@ pub(crate) fn byte_faults(s: &[u8]) -> ByteFaults
 {
     ByteFaults {
         length: bad_length(s),
-        version: bad_version(s),
         board_count: bad_board_count(s),
         lamella_count: bad_whole(s),
     }

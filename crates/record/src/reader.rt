@@ -1,4 +1,4 @@
-// Takes a record apart by the layout. Nothing is asked of the bytes: one past the end reads as 0, and the lines in `lines` say
+// Takes a record apart by the layout. Nothing is asked of the bytes: one past the end reads as 0, and the table of refusals says
 // whether the panel stands for a record.
 use crate::Lamellae;
 use crate::layout;
@@ -13,20 +13,44 @@ use panel::Cladding;
 use panel::Panel;
 ghost use mathlib.Core.Path.{_≡_};
 ghost use Prim.Native.Nat.{_≤_, _<_};
-ghost use Rattle.record.specs.Layouts.{boardCount, lamellaCount, boardAt, claddingAt, lamellaeIn, arraysOf, recordLamellae, panelOf};
+ghost use lib.ListN.{getD};
+ghost use Rattle.record.specs.Layouts.{versionOf, frontOf, body, boardCount, lamellaCount, boardAt, claddingAt, lamellaeIn, arraysOf, recordLamellae, panelOf};
+
+pub(crate) fn version_of(s: &[u8]) -> u8
+    ensures { λ r. ⌜ r ≡ versionOf (now (s .entry)) ⌝ }
+{
+    get8(s, layout::VERSION)
+}
+
+// The face, which only version 2 has.
+fn face_of(s: &[u8]) -> u8
+    ensures { λ r. ⌜ r ≡ getD (frontOf (now (s .entry))) 2 0 ⌝ }
+{
+    if version_of(s) == 2 {
+        return get8(s, layout::FACE);
+    }
+    0
+}
+
+// What follows the front.
+fn body_of(s: &[u8]) -> &[u8]
+    ensures { λ r. ⌜ now r ≡ body (now (s .entry)) ⌝ }
+{
+    part_from(s, layout::front(version_of(s)))
+}
 
 // c, the number of boards.
 pub(crate) fn board_count(s: &[u8]) -> usize
     ensures { λ r. ⌜ (r ≡ boardCount (now (s .entry))) × (r < 256) ⌝ }
 {
-    widen(get8(part_from(s, layout::FRONT), layout::BOARDS)) as usize
+    widen(get8(body_of(s), layout::BOARDS)) as usize
 }
 
 // n, the number of lamellae.
 pub(crate) fn lamella_count(s: &[u8]) -> usize
     ensures { λ r. ⌜ (r ≡ lamellaCount (now (s .entry))) × (r < 256) ⌝ }
 {
-    let at = layout::count_place(board_count(s));
+    let at = layout::count_place(version_of(s), board_count(s));
     widen(get8(s, at)) as usize
 }
 
@@ -78,7 +102,7 @@ fn lamellae_in(u: &[u8], n: usize) -> Lamellae
 fn lamellae_of(s: &[u8]) -> Lamellae
     ensures { λ r. ⌜ r ≡ arraysOf (recordLamellae (now (s .entry))) ⌝ }
 {
-    let from = layout::lamella_place(board_count(s));
+    let from = layout::lamella_place(version_of(s), board_count(s));
     let n = lesser(lamella_count(s), 9);
     lamellae_in(part_from(s, from), n)
 }
@@ -86,11 +110,13 @@ fn lamellae_of(s: &[u8]) -> Lamellae
 pub(crate) fn panel_of(s: &[u8]) -> Panel
     ensures { λ r. ⌜ r ≡ panelOf (now (s .entry)) ⌝ }
 {
-    let t = part_from(s, layout::FRONT);
+    let t = body_of(s);
     let lamellae = lamellae_of(s);
     let directions = lamellae.directions;
     let thicknesses = lamellae.thicknesses;
     Panel {
+        version: version_of(s),
+        face: face_of(s),
         bond: get8(t, layout::BOND),
         rate: get8(t, layout::RATE),
         gap: get8(t, layout::GAP),

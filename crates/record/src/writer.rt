@@ -105,15 +105,19 @@ pub(crate) fn record_length(p: Panel) -> usize
     ensures { λ r. ⌜ (r ≡ recordLength p) × (r ≤ longest) ⌝ }
 {
     let c = p.cladding;
-    layout::length_with(boards_of(c), p.count)
+    layout::length_with(p.version, boards_of(c), p.count)
 }
 
+// The length, the version, and in version 2 the face.
 fn put_front(out: &mut [u8], p: Panel)
-    requires { ⌜ (p .count ≤ 9) × (frontLength ≤ length (now out)) ⌝ }
-    ensures { λ _. ⌜ now (out .exit) ≡ sets (now (out .entry)) 0 (join frontWidths (frontNumbers p)) ⌝ }
+    requires { ⌜ (p .count ≤ 9) × (frontLength (p .version) ≤ length (now out)) ⌝ }
+    ensures { λ _. ⌜ now (out .exit) ≡ sets (now (out .entry)) 0 (join (frontWidths (p .version)) (frontNumbers p)) ⌝ }
 {
     put16(out, layout::LENGTH, record_length(p) as u16);
-    put8(out, layout::VERSION, 1);
+    put8(out, layout::VERSION, p.version);
+    if p.version == 2 {
+        put8(out, layout::FACE, p.face);
+    }
 }
 
 // Stores a panel's record at the start of the space. No open call: the count must be at most 9, and the record must fit.
@@ -123,8 +127,9 @@ pub(crate) fn put_record(out: &mut [u8], p: Panel)
 {
     let c = p.cladding;
     let boards = boards_of(c);
+    let front = layout::front(p.version);
     put_front(out, p);
-    put_head(out, layout::FRONT, p);
-    put_cladding(out, layout::FRONT + layout::HEAD, c);
-    put_tail(out, layout::count_place(boards), p);
+    put_head(out, front, p);
+    put_cladding(out, front + layout::HEAD, c);
+    put_tail(out, layout::count_place(p.version, boards), p);
 }

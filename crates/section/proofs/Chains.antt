@@ -73,7 +73,7 @@ lowest-within (more {x = x} after forward c) =
     let deeper = chain-ends c in
     omega arith
 
-highest-within : {top bottom : ℕ} {xs : List Part} → Chain top xs bottom → highest xs ≤ bottom
+pub highest-within : {top bottom : ℕ} {xs : List Part} → Chain top xs bottom → highest xs ≤ bottom
 unfolding highest
 highest-within (none below) = omega arith
 highest-within (more after forward (none below)) = below

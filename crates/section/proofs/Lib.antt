@@ -4,6 +4,9 @@ pub mod Chains
 -- No difference is cut off at 0.
 pub mod Moments
 pub mod NothingCut
+-- At depth 0 the other face is tested alike.
+pub mod MirrorSums
+pub mod Mirroring
 -- What the functions need: sums lamella by lamella.
 pub mod Growing
 -- Worked panels keep the limits.

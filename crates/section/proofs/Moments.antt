@@ -50,7 +50,7 @@ moments-add N P Q n p q one two =
     omega arith
 
 -- one part: N is d, P is 2ad + d², Q is 3a²d + 3ad² + d³
-square-part : (a d : ℕ) → (a + d) * (a + d) - a * a ≡ 2 * (a * d) + d * d
+pub square-part : (a d : ℕ) → (a + d) * (a + d) - a * a ≡ 2 * (a * d) + d * d
 square-part a d = omega arith
 
 cube-part : (a d : ℕ) → (a + d) * (a + d) * (a + d) - a * a * a ≡ 3 * (a * a * d) + 3 * (a * d * d) + d * d * d

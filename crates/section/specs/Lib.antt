@@ -2,3 +2,4 @@ pub mod Sections
 pub mod Steps
 pub mod Tests
 pub mod NothingCut
+pub mod Mirrored

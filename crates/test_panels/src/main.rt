@@ -11,6 +11,7 @@ use panel::Board;
 use panel::Cladding;
 use panel::Panel;
 use record::Writing;
+use section::Section;
 use test_lines::output;
 
 fn section_refusal(p: Panel) -> u8 {
@@ -108,6 +109,39 @@ fn print_sum(p: Panel, name: &[u8]) {
     output::end_line(name);
 }
 
+fn print_field(n: u64) {
+    output::number(n);
+    output::text(b" ");
+}
+
+fn print_parts(s: Section) {
+    print_field(s.n);
+    print_field(s.p);
+    print_field(s.q);
+    print_field(s.lo);
+    output::number(s.hi);
+}
+
+// N, P, Q, lo and hi at a depth in tenths of mm.
+fn print_section(p: Panel, depth: u32, name: &[u8]) {
+    let answer = limits::calls::section(p, depth);
+    match answer {
+        SectionAnswer::At(s, _) => print_parts(s),
+        SectionAnswer::Refused(_) => output::text(b"refused"),
+    }
+    output::end_line(name);
+}
+
+// The char depth in micrometres.
+fn print_char(p: Panel, minute: u16, name: &[u8]) {
+    let answer = charring::calls::char_depth(p, minute);
+    match answer {
+        DepthAnswer::Depth(depth) => output::number(depth as u64),
+        DepthAnswer::Refused(_) => output::text(b"refused"),
+    }
+    output::end_line(name);
+}
+
 fn print_build(a: Panel, b: Panel, name: &[u8]) {
     let answer = limits::calls::same_build(a, b);
     match answer {
@@ -126,6 +160,8 @@ fn panel(
     thicknesses: [u16; 9],
 ) -> Panel {
     Panel {
+        version: 1,
+        face: 0,
         bond: 0,
         rate: 65,
         gap: 0,
@@ -295,6 +331,75 @@ fn print_builds() {
     print_build(other, g(), b"other bond too");
 }
 
+fn faced(p: Panel, version: u8, face: u8) -> Panel {
+    let mut q = p;
+    q.version = version;
+    q.face = face;
+    q
+}
+
+// The version and the face are looked at before all else.
+fn print_versions() {
+    print_panel(faced(g(), 0, 0), b"version 0");
+    print_panel(faced(g(), 3, 0), b"version 3");
+    print_panel(faced(g(), 0, 3), b"version 0, face 3");
+    print_panel(faced(g(), 1, 1), b"version 1, face 1");
+    print_panel(faced(g(), 1, 2), b"version 1, face 2");
+    print_panel(faced(g(), 1, 3), b"version 1, face 3");
+    print_panel(faced(g(), 2, 0), b"version 2, face 0");
+    print_panel(faced(g(), 2, 1), b"version 2, face 1");
+    print_panel(faced(g(), 2, 2), b"version 2, face 2");
+    print_panel(faced(g(), 2, 3), b"version 2, face 3");
+    print_panel(faced(g(), 2, 255), b"version 2, face 255");
+    let mut loose = g();
+    loose.bond = 255;
+    print_panel(faced(loose, 3, 0), b"version 3, bond 255");
+    print_panel(faced(loose, 1, 1), b"version 1, face 1, bond 255");
+    print_panel(faced(loose, 2, 2), b"version 2, face 2, bond 255");
+}
+
+fn print_fire(full: Panel, empty: Panel) {
+    print_panel(full, b"wall, unused places full");
+    print_record(full, b"record of the wall with unused places full");
+    print_record(empty, b"record of the wall with unused places 0");
+    print_sum(full, b"EI sum of the wall with unused places full");
+    print_sum(empty, b"EI sum of the wall with unused places 0");
+    print_section(full, 250, b"section of the wall with unused places full");
+    print_section(empty, 250, b"section of the wall with unused places 0");
+    print_char(full, 60, b"char of the wall with unused places full");
+    print_char(empty, 60, b"char of the wall with unused places 0");
+    print_build(full, empty, b"walls, unused places full and 0");
+}
+
+// The same from each fire: turning reverses the used places alone.
+fn print_fires() {
+    let directions = [1u8, 0, 1, 255, 255, 255, 255, 255, 255];
+    let thicknesses = [200u16, 300, 400, 65535, 65535, 65535, 65535, 65535, 65535];
+    let mut full = unclad(3, directions, thicknesses);
+    full.bond = 1;
+    let mut empty = unclad(
+        3,
+        [1u8, 0, 1, 0, 0, 0, 0, 0, 0],
+        [200u16, 300, 400, 0, 0, 0, 0, 0, 0],
+    );
+    empty.bond = 1;
+    print_fire(faced(full, 2, 1), faced(empty, 2, 1));
+    print_fire(faced(full, 2, 2), faced(empty, 2, 2));
+    print_build(full, faced(empty, 2, 0), b"versions 1 and 2, face 0");
+    print_build(full, faced(empty, 2, 1), b"version 1 and face 1");
+    print_build(faced(full, 2, 1), faced(empty, 2, 2), b"faces 1 and 2");
+    print_build(
+        faced(full, 1, 1),
+        faced(empty, 3, 0),
+        b"the first meets 16, the second 2",
+    );
+    print_build(
+        faced(full, 0, 0),
+        faced(empty, 2, 3),
+        b"the first meets 2, the second 16",
+    );
+}
+
 fn print_greatest() {
     let mut p = panel(
         Cladding::Two(board(255, 65535, 255), board(255, 65535, 255)),
@@ -308,6 +413,8 @@ fn print_greatest() {
     p.gap = 255;
     p.strength = 65535;
     p.moment = 4294967295;
+    print_panel(faced(p, 2, 2), b"all past the face at their greatest");
+    p = faced(p, 255, 255);
     print_panel(p, b"all fields at their greatest");
     print_record(p, b"space after all fields at their greatest");
 }
@@ -345,6 +452,8 @@ fn main() {
     print_lamellae();
     print_unused();
     print_builds();
+    print_versions();
+    print_fires();
     print_greatest();
     print_starts();
 }

@@ -1,4 +1,4 @@
--- `card_run::read_input` meets its contract: more than 53 bytes of an input say what the whole of it does. Assumes nothing.
+-- `card_run::read_input` meets its contract: more than 54 bytes of an input say what the whole of it does. Assumes nothing.
 use Rattle.fire_card.proofs.Prints.{printed-first}
 use Rattle.fire_card.specs.Printed.{printedText}
 use borrow.Author.Needs.{needs}

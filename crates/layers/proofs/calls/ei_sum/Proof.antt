@@ -1,5 +1,4 @@
 -- `layers::calls::ei_sum` meets its contract: the layers of a panel that no line turns back. Assumes nothing.
-use Rattle.limits.proofs.Accepted.{accepted-keeps}
 use Rattle.layers.specs.Answers.{eiSumAnswer}
 use Rattle.layers.specs.declared.LayerAnswer.the-variants.{Value, Refused}
 use Rattle.limits.proofs.FirstLine.{turned-back, let-through}
@@ -14,10 +13,9 @@ returns c = turned-back Refused _ (c .before .panel-refusal .ensures) (c .if1 .t
 
 returns-2 : tie.Need-returns-2
 unfolding eiSumAnswer
-returns-2 c = let-through Refused (c .before .before .panel-refusal .ensures) (c .before .if1 .left) (ap Value (c .ei-sum-of .ensures))
+returns-2 c = let-through Refused (c .before .before .panel-refusal .ensures) (c .before .if1 .left) (ap Value (c .least-sum-of .ensures))
 
 pub ei-sum-spec : {M : Type 1} → statement M
 ei-sum-spec =
     tie.close
-    (tie.spec (λ c κs. search needs) returns (λ c κs. accepted-keeps (c .before .before .args .p)
-    (sym (c .before .panel-refusal .ensures) ∙ c .if1 .left)) returns-2)
+    (tie.spec (λ c κs. search needs) returns (λ c κs. sym (c .before .panel-refusal .ensures) ∙ c .if1 .left) returns-2)

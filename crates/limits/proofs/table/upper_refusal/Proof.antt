@@ -5,7 +5,8 @@ use Rattle.limits.proofs.table.upper_refusal.Tie as tie
 
 returns : tie.Need-returns
 returns c =
-    let three = c .before .before in
+    let sixteen = c .before .before .before in
+    let three = sixteen .before .before in
     let four = three .before .before in
     let five = four .before .before in
     let seven = five .before .before .before in
@@ -13,8 +14,11 @@ returns c =
     let nine = eight .before .before in
     let ten = nine .before .before in
     rw (
-      c .line-or10 .ensures,
-      c .before .line-or9 .ensures,
+      c .line-or11 .ensures,
+      c .before .line-or10 .ensures,
+      c .before .before .bad-version .ensures,
+      sixteen .line-or9 .ensures,
+      sixteen .before .bad-face .ensures,
       three .line-or8 .ensures,
       three .before .bad-bond-or-gap .ensures,
       four .line-or7 .ensures,
@@ -35,7 +39,7 @@ returns c =
 pub upper-refusal-spec : {M : Type 1} → statement M
 upper-refusal-spec =
     tie.close
-    (tie.spec (λ c κs. search needs) (λ c κs. search needs) (λ c κs. search needs) (λ c κs. search needs)
+    (tie.spec (λ c κs. search needs) (λ c κs. search needs) (λ c κs. search needs) (λ c κs. search needs) (λ c κs. search needs) (λ c κs. search needs) (λ c κs. search needs)
     (λ c κs. search needs) (λ c κs. search needs) (λ c κs. search needs) (λ c κs. search needs)
     (λ c κs. search needs) (λ c κs. search needs) (λ c κs. search needs) (λ c κs. search needs)
     (λ c κs. search needs) (λ c κs. search needs) (λ c κs. search needs) (λ c κs. search needs)

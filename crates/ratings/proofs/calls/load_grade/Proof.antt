@@ -3,7 +3,7 @@ use Prim.Native.Nat.{ℕ, _≤_}
 use Rattle.grades.specs.Grades.{gradeOf}
 use Rattle.grades.specs.declared.GradeAnswer.the-variants.{Of, Refused}
 use Rattle.limits.proofs.FirstLine.{turned-back, let-through}
-use Rattle.load.proofs.LoadMinutes.{load-most}
+use Rattle.load.proofs.EveryFire.{printed-most}
 use Rattle.ratings.specs.Answers.{graded}
 use borrow.Author.Needs.{needs}
 use mathlib.Core.Path.{sym, ap, subst, _∙_}
@@ -15,7 +15,7 @@ unfolding graded
 returns c = turned-back Refused _ (c .before .panel-refusal .ensures) (c .if1 .taken)
 
 of-requires : tie.Need-of-requires
-of-requires c κs = subst (λ (m : ℕ). m ≤ 360) (sym (c .load-minute-of .ensures)) (load-most (c .before .before .before .args .p))
+of-requires c κs = subst (λ (m : ℕ). m ≤ 360) (sym (c .load-minute-of .ensures)) (printed-most (c .before .before .before .args .p))
 
 returns-2 : tie.Need-returns-2
 unfolding graded

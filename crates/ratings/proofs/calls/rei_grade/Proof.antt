@@ -3,7 +3,7 @@ use Prim.Native.Nat.{ℕ, _≤_}
 use Rattle.grades.specs.Grades.{reiOf}
 use Rattle.grades.specs.declared.GradeAnswer.the-variants.{Of, Refused}
 use Rattle.limits.proofs.FirstLine.{turned-back, let-through}
-use Rattle.load.proofs.LoadMinutes.{load-most}
+use Rattle.load.proofs.EveryFire.{printed-most}
 use Rattle.ratings.specs.Answers.{graded}
 use borrow.Author.Needs.{needs}
 use mathlib.Core.Path.{sym, ap, ap₂, subst, _∙_}
@@ -17,7 +17,7 @@ returns c = turned-back Refused _ (c .before .panel-refusal .ensures) (c .if1 .t
 of-lower-requires : tie.Need-of-lower-requires
 of-lower-requires c κs =
     let load = c .before .load-minute-of in
-    (subst (λ (m : ℕ). m ≤ 360) (sym (load .ensures)) (load-most (c .before .before .before .before .args .p)), c .ei-minute-of .ensures .1)
+    (subst (λ (m : ℕ). m ≤ 360) (sym (load .ensures)) (printed-most (c .before .before .before .before .args .p)), c .ei-minute-of .ensures .1)
 
 returns-2 : tie.Need-returns-2
 unfolding graded

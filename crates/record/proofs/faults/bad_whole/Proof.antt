@@ -4,9 +4,14 @@ use Rattle.record.proofs.faults.bad_whole.Statement.{statement}
 use Rattle.record.proofs.faults.bad_whole.Tie as tie
 
 returns : tie.Need-returns
-returns c = rw (c .length-with .ensures, c .before .before .board-count .ensures .0, c .before .lamella-count .ensures .0)
+returns c = rw (
+  c .length-with .ensures,
+  c .before .version-of .ensures,
+  c .before .before .before .board-count .ensures .0,
+  c .before .before .lamella-count .ensures .0,
+)
 
 pub bad-whole-spec : {M : Type 1} → statement M
 bad-whole-spec =
     tie.close
-    (tie.spec (λ c κs. search needs) (λ c κs. search needs) (λ c κs. search needs) returns)
+    (tie.spec (λ c κs. search needs) (λ c κs. search needs) (λ c κs. search needs) (λ c κs. search needs) returns)

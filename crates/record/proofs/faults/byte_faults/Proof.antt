@@ -9,4 +9,4 @@ returns c = cc
 pub byte-faults-spec : {M : Type 1} → statement M
 byte-faults-spec =
     tie.close
-    (tie.spec (λ c κs. search needs) (λ c κs. search needs) (λ c κs. search needs) (λ c κs. search needs) returns)
+    (tie.spec (λ c κs. search needs) (λ c κs. search needs) (λ c κs. search needs) returns)

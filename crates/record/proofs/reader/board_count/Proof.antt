@@ -13,7 +13,7 @@ use Rattle.record.proofs.reader.board_count.Tie as tie
 returns : tie.Need-returns
 returns c =
     let head : List ℕ → List ℕ = λ t. fields headWidths t 0 in
-    (c .widen .ensures .0 ∙ c .before .get8 .ensures ∙ ap (λ (t : List ℕ). getD (head t) 5 0) (c .before .before .part-from .ensures), search needs)
+    (c .widen .ensures .0 ∙ c .before .get8 .ensures ∙ ap (λ (t : List ℕ). getD (head t) 5 0) (c .before .before .body-of .ensures), search needs)
 
 pub board-count-spec : {M : Type 1} → statement M
 board-count-spec =

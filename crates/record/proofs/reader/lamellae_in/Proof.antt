@@ -2,8 +2,8 @@
 -- Assumes nothing.
 use Prim.Native.Nat.{ℕ, _-_, _≤_, _<_}
 use Rattle.panel.specs.Lamellae.{Lamella, nine}
-use Rattle.record.proofs.Arrays.{filled-more}
-use Rattle.record.specs.Layouts.{lamellaeIn}
+use Rattle.panel.proofs.Arrays.{filled-more}
+use Rattle.record.specs.Layouts.{lamellaAt, lamellaeIn}
 use borrow.Author.Needs.{needs}
 use denote.Ref.{now}
 use lib.ListN.{set}
@@ -25,6 +25,7 @@ unfolding lamellaeIn
 loop-holds c = (omega arith, (refl, refl))
 
 loop-again : tie.Need-loop-again Inv-loop μ-loop
+unfolding lamellaeIn
 loop-again c =
     let l = c .before .before .before in
     let u = now (l .before .before .args .u) in
@@ -33,8 +34,8 @@ loop-again c =
       omega arith,
       (
         ap₂ (λ (l : List ℕ) (x : ℕ). set l i x) (l .loop .inv .1 .0) (c .before .get8 .ensures) ∙ filled-more
-            (λ (l : Lamella). l .direction) u i less,
-        ap₂ (λ (l : List ℕ) (x : ℕ). set l i x) (l .loop .inv .1 .1) (c .get16 .ensures) ∙ filled-more (λ (l : Lamella). l .thickness) u i less,
+            (λ (l : Lamella). l .direction) (lamellaAt u) i less,
+        ap₂ (λ (l : List ℕ) (x : ℕ). set l i x) (l .loop .inv .1 .1) (c .get16 .ensures) ∙ filled-more (λ (l : Lamella). l .thickness) (lamellaAt u) i less,
       ),
     )
 

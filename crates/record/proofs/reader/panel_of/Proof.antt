@@ -14,13 +14,13 @@ returns c =
     let c6 = c5 .before in
     let c7 = c6 .before in
     let c8 = c7 .before in
-    let c11 = c8 .before .before .before in
-    let c12 = c11 .before in
-    simp (c8 .get8 .ensures, c7 .get82 .ensures, c6 .get83 .ensures, c5 .get16 .ensures, c4 .get32 .ensures, c3 .get322 .ensures, c .before .cladding-at .ensures, c .lamella-count .ensures .0, c11 .lamellae-of .ensures, c .before .before .board-count .ensures .0, c12 .part-from .ensures)
+    let face = c8 .before in
+    let lamellae = face .before .before .before .before in
+    simp (face .before .version-of .ensures, face .face-of .ensures, c8 .get8 .ensures, c7 .get82 .ensures, c6 .get83 .ensures, c5 .get16 .ensures, c4 .get32 .ensures, c3 .get322 .ensures, c .before .cladding-at .ensures, c .lamella-count .ensures .0, lamellae .lamellae-of .ensures, c .before .before .board-count .ensures .0, lamellae .before .body-of .ensures)
 
 pub panel-of-spec : {M : Type 1} → statement M
 panel-of-spec =
     tie.close
-    (tie.spec (λ c κs. search needs) (λ c κs. search needs) (λ c κs. search needs) (λ c κs. search needs)
+    (tie.spec (λ c κs. search needs) (λ c κs. search needs) (λ c κs. search needs) (λ c κs. search needs) (λ c κs. search needs) (λ c κs. search needs)
     (λ c κs. search needs) (λ c κs. search needs) (λ c κs. search needs) (λ c κs. search needs)
     (λ c κs. search needs) (λ c κs. search needs) (λ c κs. search needs) returns)
