@@ -1,9 +1,10 @@
 /* The fire card for programs in C: the two functions of the proved crate card_c (target/staticlib/libcard_c.a, x86-64 Linux).
 
    A record is that of docs/SPECIFICATION.md, part 2: big-endian, 21 to 53 bytes in version 1, 22 to 54 in version 2, which has a byte for
-   the face that the fire is on after the version: 0 the first, 1 the last, 2 each alone. Version 1 means the first. Lengths in a record are in tenths of mm, the rate in hundredths
-   of mm/min, the strength in tenths of N/mm2, the moment in N·m per metre of width, the failure time in thousandths of a minute. There is
-   no board, one or two of gypsum (types A, F and H), or one of OSB (O) or particle board (P).
+   the face that the fire is on after the version: 0 the first, 1 the last, 2 each alone. Version 1 means the first. Lengths in a record
+   are in tenths of mm, the rate in hundredths of mm/min, the strength in tenths of N/mm2, the moment in N·m per metre of width, the
+   failure time in thousandths of a minute. There is no board, one or two of gypsum (types A, F and H), or one of OSB (O) or particle
+   board (P).
 
    Any bytes may be given, and any space lent; both functions always return. The caller must see to what C cannot say:
    - both pointers point to as many bytes as are named, and are not null, even where that is none;
@@ -33,7 +34,8 @@ extern "C" {
      -2 version         -5 strength, moment   -8 board numbers   -11 lamella direction, thickness, sum   -14 `out` too short
      -3 bond, gap       -6 board count        -9 failure time    -12 no lamella along                    -16 face
 
-   The first of these that fits is answered, -16 being looked at after -2 and -14 last, so only where the record is accepted. Space for exactly the card is enough. */
+   The first of these that fits is answered, -16 being looked at after -2 and -14 last, so only where the record is accepted. Space for
+   exactly the card is enough. */
 int32_t yurbantse_card(const uint8_t *bytes, size_t bytes_length, uint8_t *out, size_t out_length);
 
 /* Writes the line `REFUSED n` with its line feed into `out` and answers its bytes, 10 to 12; or answers -14 where `out` is shorter than

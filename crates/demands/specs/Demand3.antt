@@ -1,4 +1,5 @@
--- Demand 3 of the user, sentence by sentence, with what document 02, 3/14, says of it for several fires. A time is n/q minutes, q not 0; two times are compared by multiplying out.
+-- Demand 3 of the user, sentence by sentence, with what document 02, 3/14, says of it for several fires. A time is n/q
+-- minutes, q not 0; two times are compared by multiplying out.
 use Prim.Native.Nat.{ℕ, suc, _*_, _≤_, _<_}
 use mathlib.Core.Path.{_≡_}
 use mathlib.Core.List.{List}

@@ -1,15 +1,10 @@
 -- EI over the fires of a panel: the lesser minute is that of the lesser sum.
-use Prim.Native.Nat.{ℕ, zero, suc, _/_, _≤_, min}
-use mathlib.Core.Path.{_≡_, refl, sym}
+use Prim.Native.Nat.{ℕ, zero, suc, _/_, min}
+use mathlib.Core.Path.{_≡_, refl}
 use native.Mathlib.Omega.{arith}
 use Rattle.panel.specs.declared.Panel.{Panel}
-use Rattle.panel.specs.Faces.{turned, shown, firesOn, leastOf}
-use Rattle.panel.proofs.Turning.{shown-holds}
-use Rattle.limits.specs.Refusals.{panelRefusal}
-use Rattle.limits.specs.Keeps.{Keeps}
+use Rattle.panel.specs.Faces.{turned, firesOn, leastOf}
 use Rattle.limits.specs.Causes.{lastMinute}
-use Rattle.limits.proofs.Accepted.{accepted-keeps}
-use Rattle.limits.proofs.Turned.{shown-accepted, refusal-turned}
 use Rattle.basic_times.specs.Rules.{partsPerMinute}
 use Rattle.layers.specs.Layers.{eiSum, eiMinute, printedEi, leastSum}
 

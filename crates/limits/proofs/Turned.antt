@@ -1,17 +1,13 @@
 -- A turned panel meets the lines that the panel meets, whatever they are; in particular depth 0 passes from one face exactly when from the
 -- other. So what is asked of an accepted panel may be asked of each of its fires.
-use Prim.Native.Nat.{ℕ}
 use mathlib.Core.Path.{_≡_, refl, ap, _∙_}
 use mathlib.Core.List.{List, [], _∷_, reverse, reverse-cons}
 use mathlib.Core.Bool.{Bool, _||_, or-comm}
 use Rattle.panel.specs.declared.Panel.{Panel}
 use Rattle.panel.specs.Lamellae.{Lamella, lamellae, along}
-use Rattle.panel.specs.Timber.{factorOf}
-use Rattle.panel.specs.Faces.{turned, firesOn, fires, shownOn, shown, InEvery}
-use Rattle.panel.proofs.Turning.{turned-lamellae, turned-count, thickness-reverse, shown-holds, every-holds}
-use Rattle.section.specs.Sections.{counted, sectionOf}
-use Rattle.section.specs.Tests.{carries, depthPasses}
-use Rattle.section.proofs.Mirroring.{carries-mirrored}
+use Rattle.panel.specs.Faces.{turned, shown}
+use Rattle.panel.proofs.Turning.{turned-lamellae, turned-count, thickness-reverse, shown-holds}
+use Rattle.section.proofs.Mirroring.{zero-turned}
 use Rattle.limits.specs.Lines.{refusal}
 use Rattle.limits.specs.Causes.{badLamella, some}
 use Rattle.limits.specs.Refusals.{panelLines, panelRefusal}
@@ -25,12 +21,6 @@ some-reverse test (l ∷ ls) =
     ∙ some-more test (reverse ls) l
     ∙ ap (λ (t : Bool). t || test l) (some-reverse test ls)
     ∙ or-comm (some test ls) (test l)
-
--- depth 0 passes from one face exactly when from the other
-pub zero-turned : (p : Panel) → depthPasses (turned p) 0 ≡ depthPasses p 0
-zero-turned p =
-    ap (λ (ls : List Lamella). carries (factorOf (p .bond)) (p .moment) (p .strength) (sectionOf (counted 0 ls))) (turned-lamellae p)
-    ∙ carries-mirrored (factorOf (p .bond)) (p .moment) (p .strength) (lamellae p)
 
 pub lines-turned : (p : Panel) → panelLines (turned p) ≡ panelLines p
 lines-turned p =
@@ -48,9 +38,6 @@ pub refusal-turned : (p : Panel) → panelRefusal (turned p) ≡ panelRefusal p
 unfolding panelRefusal
 refusal-turned p = ap refusal (lines-turned p)
 
--- the fire that is shown, and every fire, of an accepted panel is that of an accepted one
+-- the fire that is shown of an accepted panel is that of an accepted one
 pub shown-accepted : (p : Panel) → panelRefusal p ≡ 0 → panelRefusal (shown p) ≡ 0
 shown-accepted p e = shown-holds (λ q. panelRefusal q ≡ 0) (p .face) p e (refusal-turned p ∙ e)
-
-pub every-accepted : (p : Panel) → panelRefusal p ≡ 0 → InEvery (λ fire. panelRefusal fire ≡ 0) (fires p)
-every-accepted p e = every-holds (λ q. panelRefusal q ≡ 0) (p .face) p e (refusal-turned p ∙ e)

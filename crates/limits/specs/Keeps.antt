@@ -1,5 +1,5 @@
--- What lines 2 to 11 and 16 leave of a panel that none of them turns back, as inequalities: the one record of limits that the other crates work
--- within. What their inner functions ask for are parts of it.
+-- What lines 2 to 11 and 16 leave of a panel that none of them turns back, as inequalities: the one record of limits that the other crates
+-- work within. What their inner functions ask for are parts of it.
 use Prim.Native.Nat.{ℕ, _+_, _*_, _<_, _≤_}
 use mathlib.Core.Path.{_≡_}
 use mathlib.Core.Bool.{true, false}

@@ -1,14 +1,14 @@
 -- The printed load minute is the whole part of passing in every fire, and lies less than a minute below the failure time. The argument about
 -- two fires holds for any two notions of passing and any part of a minute.
 use Prim.Native.Nat.{ℕ, zero, suc, _*_, _≤_, _<_, min}
-use mathlib.Core.Path.{_≡_, ap, subst, sym, _∙_}
+use mathlib.Core.Path.{_≡_, subst, _∙_}
 use native.Mathlib.Omega.{arith}
 use native.Mathlib.Decide.{decLe}
 use Rattle.panel.specs.declared.Panel.{Panel}
 use Rattle.panel.specs.Faces.{turned, firesOn, InEvery, leastOf}
 use Rattle.limits.specs.Refusals.{panelRefusal}
 use Rattle.limits.proofs.Turned.{refusal-turned}
-use Rattle.load.specs.Failure.{TimePasses, EveryFirePasses, NotAboveFailure, AboveFailure, IsWholePart}
+use Rattle.load.specs.Failure.{TimePasses, EveryFirePasses, AboveFailure, IsWholePart}
 use Rattle.load.specs.LoadMinute.{loadMinute, printedLoad}
 use Rattle.load.proofs.LoadMinutes.{load-most, accepted-load-minute}
 use Rattle.load.proofs.WholeParts.{earlier-not-above}

@@ -1,13 +1,12 @@
 -- Laws of turning, for every panel: what it keeps, that turned twice a panel is itself, and that unused places do not matter.
-use Prim.Native.Nat.{ℕ, zero, suc, _+_, _-_, _<_, _≤_, min}
+use Prim.Native.Nat.{ℕ, zero, suc, _-_, _<_, _≤_, min}
 use mathlib.Core.Path.{_≡_, refl, sym, ap, ap₂, subst, _∙_}
-use mathlib.Core.List.{List, [], _∷_, _++_, reverse, reverse-cons, reverse-reverse}
+use mathlib.Core.List.{List, [], _∷_, reverse, reverse-cons, reverse-reverse}
 use native.Mathlib.Omega.{arith}
-use lib.ListN.{length, getD, length-reverse}
+use lib.ListN.{getD, length-reverse}
 use Rattle.numbers.specs.Firsts.{firsts}
 use Rattle.numbers.proofs.FirstValues.{reverse-firsts}
 use Rattle.panel.specs.declared.Panel.{Panel}
-use Rattle.panel.specs.Boards.{boardsOf}
 use Rattle.panel.specs.Lamellae.{Lamella, lamella, lamellaeOf, lamellae, withLamellae, cleared, SameUsed, thickness}
 use Rattle.panel.specs.Builds.{SameBuild}
 use Rattle.panel.specs.Faces.{turned, firesOn, fires, shownOn, shown, InEvery, leastOf}
@@ -98,7 +97,7 @@ module _ (Alike : Panel → Panel → Type 0) (faces : (p q : Panel) → Alike p
 pub turned-same : (p q : Panel) → SameUsed p q → turned p ≡ turned q
 turned-same = unused turned (λ p. ap (λ (ls : List Lamella). withLamellae p (reverse ls)) (lamellae-cleared p))
 
-pub face-same : (p q : Panel) → SameUsed p q → p .face ≡ q .face
+face-same : (p q : Panel) → SameUsed p q → p .face ≡ q .face
 face-same p q h = ap (λ (r : Panel). r .face) h
 
 pub shown-same : (p q : Panel) → SameUsed p q → SameUsed (shown p) (shown q)

@@ -30,9 +30,10 @@ pub enum Cladding {
     Two(Board, Board),
 }
 
-// The version is that of its record. The face is 0 for a fire on the first face, 1 on the last, 2 on each alone. The rate is in hundredths of mm/min, the strength in tenths of N/mm², the moment in N·m per metre of width, the failure time
-// in thousandths of a minute. Lamella i, from the exposed face, has its direction (0 across, 1 along) and its thickness (tenths
-// of mm) at place i of the arrays. Places from `count` on are unused.
+// The version is that of its record. The face is 0 for a fire on the first face, 1 on the last, 2 on each alone. The rate is in
+// hundredths of mm/min, the strength in tenths of N/mm², the moment in N·m per metre of width, the failure time in thousandths of a
+// minute. Lamella i, from the first face, has its direction (0 across, 1 along) and its thickness (tenths of mm) at place i of the
+// arrays. Places from `count` on are unused.
 pub struct Panel {
     pub version: u8,
     pub face: u8,

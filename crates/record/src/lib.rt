@@ -1,4 +1,4 @@
-// The panel record of document 01: its layout, the reader and the writer, and the lines that turn a record back.
+// The panel record of documents 01 and 02: its layout, the reader and the writer, and the lines that turn a record back.
 pub mod calls;
 mod faults;
 mod layout;

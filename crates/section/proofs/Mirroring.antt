@@ -1,16 +1,20 @@
 -- At depth 0 a panel that is tested from its other face is tested alike: its counted parts are the same, measured from the other end.
 -- Assumes nothing.
 use Prim.Native.Nat.{ℕ, _+_, _-_, _*_, _≤_, max}
-use mathlib.Core.Path.{_≡_, refl, sym, ap, ap₂, _∙_}
+use mathlib.Core.Path.{_≡_, refl, sym, ap, ap₂, subst, _∙_}
 use mathlib.Core.Bool.{Bool, true, false, _&&_}
 use mathlib.Core.List.{List, [], _∷_, reverse, reverseAux}
 use native.Mathlib.Nat.{max-comm}
 use native.Mathlib.Omega.{arith}
 use lib.Dec.{leb}
-use Rattle.panel.specs.Lamellae.{Lamella, along, thickness}
+use Rattle.panel.specs.declared.Panel.{Panel}
+use Rattle.panel.specs.Lamellae.{Lamella, along, thickness, lamellae}
+use Rattle.panel.specs.Timber.{factorOf}
+use Rattle.panel.specs.Faces.{turned}
+use Rattle.panel.proofs.Turning.{turned-lamellae}
 use Rattle.section.specs.declared.Section.{Section}
 use Rattle.section.specs.Sections.{Part, leastRemainder, rest, counts, keepIf, countedFrom, counted, total, lowest, highest, sectionOf}
-use Rattle.section.specs.Tests.{edge, carries}
+use Rattle.section.specs.Tests.{edge, carries, sectionAt, depthPasses}
 use Rattle.section.specs.Mirrored.{Mirrored}
 use Rattle.section.proofs.Chains.{Chain, none, more, chain-ends, highest-within, counted-chain}
 use Rattle.section.proofs.MirrorSums.{square-mirrored, cube-mirrored, square-add, cube-add, inertia-same, edge-same}
@@ -130,6 +134,12 @@ mirrored ls =
     rw (counted-onto (thickness ls) 0 0 (thickness ls) ls [] (omega arith) (omega arith))
     (chain-mirrored (thickness ls) (counted-chain 0 0 (thickness ls) ls (omega arith)) (omega arith))
 
+-- of a panel and the same turned
+pub turned-mirrored : (p : Panel) → Mirrored (thickness (lamellae p)) (sectionAt p 0) (sectionAt (turned p) 0)
+turned-mirrored p =
+    subst (λ (ls : List Lamella). Mirrored (thickness (lamellae p)) (sectionAt p 0) (sectionOf (counted 0 ls))) (sym (turned-lamellae p))
+    (mirrored (lamellae p))
+
 -- sections of which one is the other from the other face are tested alike
 mirrored-alike : (factor moment strength t : ℕ) (s r : Section) → Mirrored t s r
     → carries factor moment strength r ≡ carries factor moment strength s
@@ -138,6 +148,8 @@ mirrored-alike factor moment strength t s r m =
     let edges : edge r ≡ edge s = ap₂ max (m .outer) (m .inner) ∙ max-comm _ _ in
     rw (edges, m .inertia, m .n)
 
-pub carries-mirrored : (factor moment strength : ℕ) (ls : List Lamella)
-    → carries factor moment strength (sectionOf (counted 0 (reverse ls))) ≡ carries factor moment strength (sectionOf (counted 0 ls))
-carries-mirrored factor moment strength ls = mirrored-alike factor moment strength (thickness ls) _ _ (mirrored ls)
+-- depth 0 passes from one face exactly when from the other
+pub zero-turned : (p : Panel) → depthPasses (turned p) 0 ≡ depthPasses p 0
+zero-turned p =
+    mirrored-alike (factorOf (p .bond)) (p .moment) (p .strength) (thickness (lamellae p)) (sectionAt p 0) (sectionAt (turned p) 0)
+    (turned-mirrored p)

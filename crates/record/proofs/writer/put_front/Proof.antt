@@ -4,14 +4,14 @@ use Prim.Native.Nat.{ℕ}
 use Rattle.numbers.proofs.Lists.{then-put}
 use Rattle.numbers.specs.Bytes.{bytes}
 use Rattle.record.proofs.Lengths.{front-length-two, front-two, front-one}
-use Rattle.record.specs.Layouts.{frontLength, recordLength}
+use Rattle.record.specs.Layouts.{recordLength}
 use borrow.Author.Needs.{needs}
 use denote.Ref.{now}
 use lib.ListN.{length}
 use lib.Seq.{sets}
 use mathlib.Core.List.{List, _++_}
 use native.Mathlib.Omega.{arith}
-use mathlib.Core.Path.{_≡_, refl, sym, ap, _∙_}
+use mathlib.Core.Path.{refl, sym, ap, _∙_}
 use Rattle.record.proofs.writer.put_front.Statement.{statement}
 use Rattle.record.proofs.writer.put_front.Tie as tie
 
