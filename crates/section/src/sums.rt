@@ -7,8 +7,9 @@ ghost use mathlib.Core.Path.{_≡_};
 ghost use Prim.Native.Nat.{_+_, _-_, _*_, _≤_, _<_};
 ghost use lib.Dec.{eqb, leb};
 ghost use Rattle.numbers.specs.Choice.{pick};
-ghost use Rattle.panel.specs.Lamellae.{lamella};
-ghost use Rattle.section.specs.Sections.{leastRemainder};
+ghost use lib.ListN.{length};
+ghost use Rattle.panel.specs.Lamellae.{lamella, lamellaeOf, thickness};
+ghost use Rattle.section.specs.Sections.{leastRemainder, counted, sectionOf};
 ghost use Rattle.section.specs.Steps.{withPart, withLamella};
 ghost use Rattle.section.specs.Tests.{sectionAt, SectionFits, SectionBounds};
 
@@ -86,10 +87,12 @@ fn with_lamella(s: Section, depth: u64, top: u64, direction: u8, thick: u16) -> 
     }
 }
 
-// No open call: the panel must keep the limits of lines 5, 10 and 11.
-pub fn section_at(p: Panel, depth: u32) -> Section
-    requires { ⌜ SectionFits p ⌝ }
-    ensures { λ r. ⌜ r ≡ sectionAt p depth ⌝ }
+// The sums over the first `count` lamellae of two lent arrays, so that a scan of depths copies none. No open call: the arrays must
+// hold as many, of at most 400.0 mm.
+pub fn section_in(directions: &[u8], thicknesses: &[u16], count: usize, depth: u32) -> Section
+    requires { ⌜ (count ≤ length (now directions)) × (count ≤ length (now thicknesses)) ⌝ }
+    requires { ⌜ thickness (lamellaeOf (now directions) (now thicknesses) count) ≤ 4000 ⌝ }
+    ensures { λ r. ⌜ r ≡ sectionOf (counted depth (lamellaeOf (now (directions .entry)) (now (thicknesses .entry)) count)) ⌝ }
 {
     let mut s = Section {
         n: 0,
@@ -100,11 +103,21 @@ pub fn section_at(p: Panel, depth: u32) -> Section
     };
     let mut top: u64 = 0;
     let mut i = 0;
-    while i < p.count {
-        let thick = p.thicknesses[i];
-        s = with_lamella(s, depth as u64, top, p.directions[i], thick);
+    while i < count {
+        let thick = thicknesses[i];
+        s = with_lamella(s, depth as u64, top, directions[i], thick);
         top += widen(thick);
         i += 1;
     }
     s
+}
+
+// No open call: the panel must keep the limits of lines 5, 10 and 11.
+pub fn section_at(p: Panel, depth: u32) -> Section
+    requires { ⌜ SectionFits p ⌝ }
+    ensures { λ r. ⌜ r ≡ sectionAt p depth ⌝ }
+{
+    let directions = p.directions;
+    let thicknesses = p.thicknesses;
+    section_in(&directions, &thicknesses, p.count, depth)
 }

@@ -14,18 +14,18 @@ use borrow.Author.Needs.{needs}
 use borrow.Author.Tests.{not-true, not-false}
 use mathlib.Core.Bool.{true, false}
 use mathlib.Core.Logic.{_↔_}
-use mathlib.Core.Path.{_≡_, sym, ap, subst, _∙_}
+use mathlib.Core.Path.{_≡_, refl, sym, ap, subst, _∙_}
 use native.Mathlib.Numerals.{add-one}
 use native.Mathlib.Omega.{arith}
 use Rattle.load.proofs.scan.scan.Statement.{statement}
 use Rattle.load.proofs.scan.scan.Tie as tie
 
 abbrev Inv-loop : tie.InvT-loop
-Inv-loop p f minute₀ depth₀ minute depth =
+Inv-loop p f directions thicknesses minute₀ depth₀ minute depth =
     (minute ≤ 360) × ((depth ≡ tenthsAt p minute 1) × EveryTenthPasses (depthPasses p) depth)
 
 abbrev μ-loop : tie.MeasureT-loop
-μ-loop p f minute₀ depth₀ minute depth = 360 - minute
+μ-loop p f directions thicknesses minute₀ depth₀ minute depth = 360 - minute
 
 -- a minute passes where every depth to its own does
 passes : (p : Panel) (minute depth : ℕ) → depth ≡ tenthsAt p minute 1 → EveryTenthPasses (depthPasses p) depth → timeTest p minute 1 ≡ true
@@ -57,38 +57,57 @@ stops p minute depth later m e f h fails =
 
 loop-holds : tie.Need-loop-holds Inv-loop μ-loop
 loop-holds c =
-    let p = c .before .before .args .p in
+    let start = c .before .before .before .before in
+    let p = start .args .p in
     let d = c .tenths-in .ensures in
-    (omega arith, (d, λ k u. ap (depthPasses p) (let z : k ≡ 0 = omega (arith, tenths-zero p 1 (omega arith)) in z) ∙ c .before .before .pre .1 .1))
+    (omega arith, (d, λ k u. ap (depthPasses p) (let z : k ≡ 0 = omega (arith, tenths-zero p 1 (omega arith)) in z) ∙ start .pre .1 .1))
+
+tenths-in-requires : tie.Need-tenths-in-requires Inv-loop μ-loop
+tenths-in-requires c κs =
+    let f = c .before .before in
+    (f .before .pre .1 .0, (f .fire-of .ensures, omega arith))
 
 tenths-in-requires-2 : tie.Need-tenths-in-requires-2 Inv-loop μ-loop
 tenths-in-requires-2 c κs =
-    let f = c .before .before .before in
+    let f = c .before .before .before .before .before in
     (f .before .pre .1 .0, (f .fire-of .ensures, omega arith))
+
+-- the lengths of the two arrays
+slice-aggregate-further-pass : tie.Need-slice-aggregate-further-pass Inv-loop μ-loop
+slice-aggregate-further-pass c = search needs
+
+slice-aggregate-further-pass-2 : tie.Need-slice-aggregate-further-pass-2 Inv-loop μ-loop
+slice-aggregate-further-pass-2 c = search needs
 
 further-pass-requires : tie.Need-further-pass-requires Inv-loop μ-loop
 further-pass-requires c κs =
-    let l = c .before .before in
-    (l .before .before .before .pre .0, l .loop .inv .1 .1 (l .loop .depth) (omega arith))
+    let l = c .before .before .before .before in
+    let fits = l .before .before .before .before .before .pre .0 in
+    let count = fits .count in
+    let directions = slice-aggregate-further-pass (c .before) in
+    let thicknesses = slice-aggregate-further-pass-2 c in (
+      (fits, l .loop .inv .1 .1 (l .loop .depth) (omega arith)),
+      record { directions = refl; thicknesses = refl; directionsHold = omega arith; thicknessesHold = omega arith },
+    )
 
 returns : tie.Need-returns Inv-loop μ-loop
 returns c =
-    let n = c .before .before in
+    let n = c .before .before .before .before in
     let l = n .before .before in
     let i = l .loop .inv in
-    stops (l .before .before .before .args .p) (l .loop .minute) (l .loop .depth) (n .tenths-in2 .result) (i .0) (i .1 .0)
+    stops (l .before .before .before .before .before .args .p) (l .loop .minute) (l .loop .depth) (n .tenths-in2 .result) (i .0) (i .1 .0)
     (n .tenths-in2 .ensures) (i .1 .1)
     (sym (c .before .further-pass .ensures) ∙ not-true (c .before .further-pass .result) (c .if1 .taken))
 
 loop-again : tie.Need-loop-again Inv-loop μ-loop
 loop-again c =
-    let n = c .before .before in
+    let n = c .before .before .before .before in
     let l = n .before .before in
     let i = l .loop .inv in (
       omega arith,
       (
         n .tenths-in2 .ensures,
-        next (l .before .before .before .args .p) (l .loop .minute) (l .loop .depth) (n .tenths-in2 .result) (i .1 .0) (n .tenths-in2 .ensures)
+        next (l .before .before .before .before .before .args .p) (l .loop .minute) (l .loop .depth) (n .tenths-in2 .result) (i .1 .0) (n .tenths-in2 .ensures)
             (i .1 .1) .0 (sym (c .before .further-pass .ensures) ∙ not-false (c .before .further-pass .result) (c .if1 .left)),
       ),
     )
@@ -97,13 +116,13 @@ returns-2 : tie.Need-returns-2 Inv-loop μ-loop
 returns-2 c =
     let l = c .before in
     let i = l .loop .inv in
-    let p = l .before .before .before .args .p in
+    let p = l .before .before .before .before .before .args .p in
     sym (load-last p (l .loop .minute) (i .0) (passes p (l .loop .minute) (l .loop .depth) (i .1 .0) (i .1 .1))
     (λ less. absurd (let z : ⊥ = omega arith in z)))
 
 pub scan-spec : {M : Type 1} → statement M
 scan-spec =
     tie.close
-    (tie.spec Inv-loop μ-loop (λ c κs. search needs) (λ c κs. (c .before .pre .1 .0, (c .fire-of .ensures, omega arith))) loop-holds
-    (λ c. omega arith) (λ c. omega arith) tenths-in-requires-2
+    (tie.spec Inv-loop μ-loop (λ c κs. search needs) tenths-in-requires loop-holds
+    (λ c. omega arith) (λ c. omega arith) tenths-in-requires-2 slice-aggregate-further-pass slice-aggregate-further-pass-2
     further-pass-requires returns (λ c. omega arith) (λ c. omega arith) loop-again returns-2)

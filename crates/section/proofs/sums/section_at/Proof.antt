@@ -1,57 +1,26 @@
--- `section::sums::section_at` meets its contract. The loop's invariant: s and top are the sums of the first i lamellae and where
--- these end. The measure is the lamellae left. Assumes nothing.
-use Prim.Native.Nat.{_≤_, _-_}
-use mathlib.Core.Path.{_≡_}
-use native.Mathlib.Omega.{arith}
+-- `section::sums::section_at` meets its contract: the panel's arrays hold nine places, and it has at most as many lamellae.
+-- Assumes nothing.
 use borrow.Author.Needs.{needs}
-use Rattle.section.proofs.Growing.{Summed, summed-start, summed-more, summed-fits}
+use native.Mathlib.Omega.{arith}
 use Rattle.section.proofs.sums.section_at.Statement.{statement}
 use Rattle.section.proofs.sums.section_at.Tie as tie
 
-abbrev Inv-loop : tie.InvT-loop
-Inv-loop depth p s₀ top₀ i₀ s top i = (i ≤ p .count) × Summed (p .directions) (p .thicknesses) depth i s top
+-- the lengths of the two arrays
+slice-aggregate-section-in : tie.Need-slice-aggregate-section-in
+slice-aggregate-section-in c = search needs
 
-abbrev μ-loop : tie.MeasureT-loop
-μ-loop depth p s₀ top₀ i₀ s top i = p .count - i
+slice-aggregate-section-in-2 : tie.Need-slice-aggregate-section-in-2
+slice-aggregate-section-in-2 c = search needs
 
-loop-holds : tie.Need-loop-holds Inv-loop μ-loop
-loop-holds c = (omega arith, summed-start _ _ _)
-
-with-lamella-requires : tie.Need-with-lamella-requires Inv-loop μ-loop
-with-lamella-requires c κs =
-    let l = c .before .before .before in
-    let fits = summed-fits _ _ _ _ _ _ _ (l .loop .inv .1) (omega arith) (l .before .pre .thickness) in
-    (fits .0, (search needs, fits .1))
-
-add-top : tie.Need-add-top Inv-loop μ-loop
-add-top c =
-    let l = c .before .before .before .before .before in
-    omega (arith, summed-fits _ _ _ _ _ _ _ (l .loop .inv .1) (search needs) (l .before .pre .thickness) .1)
-
-loop-again : tie.Need-loop-again Inv-loop μ-loop
-loop-again c =
-    let l = c .before .before .before .before .before in
-    (omega arith, summed-more _ _ _ _ _ _ _ _ (l .loop .inv .1) (c .before .with-lamella .ensures) (omega arith))
-
-returns : tie.Need-returns Inv-loop μ-loop
-returns c =
-    let all : c .before .loop .i ≡ c .before .before .args .t1 .count = omega arith in
-    rw all at (c .before .loop .inv .1 .sums)
+section-in-requires : tie.Need-section-in-requires
+section-in-requires c κs =
+    let fits = c .before .before .before .before .pre in
+    let count = fits .count in
+    let directions = slice-aggregate-section-in (c .before) in
+    let thicknesses = slice-aggregate-section-in-2 c in
+    ((omega arith, omega arith), fits .thickness)
 
 pub section-at-spec : {M : Type 1} → statement M
 section-at-spec =
     tie.close
-    (tie.spec
-    Inv-loop
-    μ-loop
-    loop-holds
-    (λ c. omega arith)
-    (λ c. omega arith)
-    (λ c. omega arith)
-    with-lamella-requires
-    (λ c κs. search needs)
-    add-top
-    (λ c. omega arith)
-    (λ c. omega arith)
-    loop-again
-    returns)
+    (tie.spec slice-aggregate-section-in slice-aggregate-section-in-2 section-in-requires (λ c. search needs))
