@@ -8,7 +8,7 @@ use lib.Dec.{eqb}
 use Rattle.numbers.specs.Firsts.{firsts}
 use Rattle.panel.specs.declared.Panel.{Panel}
 
--- "per lamella, from the exposed face: 0 across or 1 along (1), thickness in tenths of mm (2)"
+-- "per lamella, from the exposed face: 0 across or 1 along (1), thickness in tenths of mm (2)"; in a record of version 2, from the first face
 pub record Lamella : Type 0 where
   pub direction : ℕ
   pub thickness : ℕ
