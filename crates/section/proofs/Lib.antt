@@ -7,7 +7,8 @@ pub mod NothingCut
 -- At depth 0 the other face is tested alike.
 pub mod MirrorSums
 pub mod Mirroring
--- What the functions need: sums lamella by lamella.
+-- What the functions need: sums lamella by lamella, and arrays lent.
 pub mod Growing
+pub mod Lent
 -- Worked panels keep the limits.
 pub mod Worked

@@ -9,12 +9,13 @@ use Rattle.load.specs.Failure.{EveryTenthPasses}
 use Rattle.load.specs.LoadMinute.{everyFrom, timeTest, loadMinute}
 use Rattle.numbers.proofs.Booleans.{not-both}
 use Rattle.panel.specs.declared.Panel.{Panel}
+use Rattle.section.proofs.Lent.{own-arrays}
 use Rattle.section.specs.Tests.{depthPasses}
 use borrow.Author.Needs.{needs}
 use borrow.Author.Tests.{not-true, not-false}
 use mathlib.Core.Bool.{true, false}
 use mathlib.Core.Logic.{_↔_}
-use mathlib.Core.Path.{_≡_, refl, sym, ap, subst, _∙_}
+use mathlib.Core.Path.{_≡_, sym, ap, subst, _∙_}
 use native.Mathlib.Numerals.{add-one}
 use native.Mathlib.Omega.{arith}
 use Rattle.load.proofs.scan.scan.Statement.{statement}
@@ -82,12 +83,10 @@ slice-aggregate-further-pass-2 c = search needs
 further-pass-requires : tie.Need-further-pass-requires Inv-loop μ-loop
 further-pass-requires c κs =
     let l = c .before .before .before .before in
-    let fits = l .before .before .before .before .before .pre .0 in
-    let count = fits .count in
-    let directions = slice-aggregate-further-pass (c .before) in
-    let thicknesses = slice-aggregate-further-pass-2 c in (
+    let start = l .before .before .before .before .before in
+    let fits = start .pre .0 in (
       (fits, l .loop .inv .1 .1 (l .loop .depth) (omega arith)),
-      record { directions = refl; thicknesses = refl; directionsHold = omega arith; thicknessesHold = omega arith },
+      own-arrays (start .args .p) (fits .count) (slice-aggregate-further-pass (c .before)) (slice-aggregate-further-pass-2 c),
     )
 
 returns : tie.Need-returns Inv-loop μ-loop

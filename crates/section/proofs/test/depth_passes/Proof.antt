@@ -1,8 +1,7 @@
 -- `section::test::depth_passes` meets its contract: the panel's arrays hold nine places, and it has at most as many lamellae.
 -- Assumes nothing.
+use Rattle.section.proofs.Lent.{own-arrays}
 use borrow.Author.Needs.{needs}
-use mathlib.Core.Path.{refl}
-use native.Mathlib.Omega.{arith}
 use Rattle.section.proofs.test.depth_passes.Statement.{statement}
 use Rattle.section.proofs.test.depth_passes.Tie as tie
 
@@ -15,11 +14,9 @@ slice-aggregate-depth-passes-in-2 c = search needs
 
 depth-passes-in-requires : tie.Need-depth-passes-in-requires
 depth-passes-in-requires c κs =
-    let fits = c .before .before .before .before .pre in
-    let count = fits .count in
-    let directions = slice-aggregate-depth-passes-in (c .before) in
-    let thicknesses = slice-aggregate-depth-passes-in-2 c in
-    (fits, record { directions = refl; thicknesses = refl; directionsHold = omega arith; thicknessesHold = omega arith })
+    let start = c .before .before .before .before in
+    let fits = start .pre in
+    (fits, own-arrays (start .args .p) (fits .count) (slice-aggregate-depth-passes-in (c .before)) (slice-aggregate-depth-passes-in-2 c))
 
 pub depth-passes-spec : {M : Type 1} → statement M
 depth-passes-spec =
