@@ -66,12 +66,73 @@ static Section section_at(const Panel *p, uint64_t depth)
     return s;
 }
 
-static bool depth_passes(const Panel *p, uint64_t depth)
+static bool section_passes(const Panel *p, Section s)
 {
-    Section s = section_at(p, depth);
     uint64_t e = larger(s.p - 2 * s.n * s.lo, 2 * s.n * s.hi - s.p);
     uint64_t w = 4 * s.n * s.q - 3 * s.p * s.p;
     return 0 < s.n && UINT64_C(120000) * p->moment * e <= UINT64_C(23) * p->strength * w;
+}
+
+/* ---- the section carried from depth to depth */
+
+typedef struct {
+    Section section;
+    uint64_t depth;
+    size_t place;
+    uint64_t end, next;
+} Carried;
+
+/* Without what lies from a to b, where the first part begins. */
+static void take_off(Section *s, uint64_t a, uint64_t b, uint64_t lo)
+{
+    s->n -= b - a;
+    s->p -= b * b - a * a;
+    s->q -= b * b * b - a * a * a;
+    s->lo = lo;
+    if (s->n == 0)
+        s->hi = 0;
+}
+
+static void step(Section *s, uint64_t end, uint64_t next)
+{
+    if (s->n == 0 || end <= s->lo)
+        return;
+    if (s->lo + 1 + 30 <= end)
+        take_off(s, s->lo, s->lo + 1, s->lo + 1);
+    else
+        take_off(s, s->lo, end, next);
+}
+
+static uint64_t first_along(const Panel *p, size_t place, uint64_t top)
+{
+    for (; place < p->count; place++) {
+        if (p->directions[place] == 1)
+            return top;
+        top += p->thicknesses[place];
+    }
+    return 0;
+}
+
+static void deeper(const Panel *p, Carried *c)
+{
+    if (c->end <= c->depth) {
+        c->end += p->thicknesses[c->place++];
+        c->next = first_along(p, c->place, c->end);
+    }
+    step(&c->section, c->end, c->next);
+    c->depth++;
+}
+
+/* The last depth, at most `bottom`, to which every depth passes. */
+static uint64_t last_passing(const Panel *p, uint64_t bottom)
+{
+    Carried c = {section_at(p, 0), 0, 0, 0, 0};
+    while (c.depth < bottom) {
+        deeper(p, &c);
+        if (!section_passes(p, c.section))
+            return c.depth - 1;
+    }
+    return c.depth;
 }
 
 /* ---- the record */
@@ -163,7 +224,7 @@ static int read_record(const uint8_t *b, size_t length, Panel *p)
         return 11;
     if (!along)
         return 12;
-    return depth_passes(p, 0) ? 0 : 13;
+    return section_passes(p, section_at(p, 0)) ? 0 : 13;
 }
 
 static Panel turned(const Panel *p)
@@ -240,24 +301,17 @@ static uint32_t tenths_in(const Panel *p, const Fire *f, uint64_t minute)
 
 /* ---- the load minute */
 
-static bool next_pass(const Panel *p, uint32_t depth, uint32_t to)
-{
-    while (depth < to)
-        if (!depth_passes(p, ++depth))
-            return false;
-    return true;
-}
-
 static uint32_t load_minute(const Panel *p, const Fire *f)
 {
-    uint32_t depth = tenths_in(p, f, 0);
-    for (uint32_t minute = 0; minute < 360; minute++) {
-        uint32_t next = tenths_in(p, f, minute + 1);
-        if (!next_pass(p, depth, next))
-            return minute;
-        depth = next;
+    uint64_t last = last_passing(p, f->back / 100000000), minute = 0, past = 361;
+    while (minute + 1 < past) {
+        uint64_t middle = minute + (past - minute) / 2;
+        if (tenths_in(p, f, middle) <= last)
+            minute = middle;
+        else
+            past = middle;
     }
-    return 360;
+    return (uint32_t)minute;
 }
 
 /* ---- layer times, in hundredths of a minute */

@@ -8,12 +8,11 @@ use native.Mathlib.Nat.{add-assoc, one-mul}
 use native.Mathlib.Numerals.{add-one}
 use borrow.Author.Tests.{le-ltb, leb-true, leb-false, lt-ltb}
 use lib.ListN.{length, drop, getD}
-use lib.Seq.{drop-cons, drop-length}
+use lib.Seq.{drop-length}
 use lib.Dec.{eqb, leb}
-use Rattle.numbers.proofs.FirstValues.{getD-firsts}
 use Rattle.panel.specs.declared.Panel.{Panel}
 use Rattle.panel.specs.Lamellae.{Lamella, lamella, lamellae, lamellaeOf, thickness}
-use Rattle.panel.proofs.Used.{length-lamellaeOf, thickness-more, thickness-prefix}
+use Rattle.panel.proofs.Used.{length-lamellaeOf, rest-of, thickness-more, thickness-prefix}
 use Rattle.charring.specs.declared.Fire.{Fire}
 use Rattle.charring.specs.declared.Place.{Place}
 use Rattle.charring.specs.Fires.{tenth, fastRun, backFace, linesFrom, bondLines, lineEnd}
@@ -98,10 +97,7 @@ lamellaAt p i = lamella (getD (p .directions) i 0) (getD (p .thicknesses) i 0)
 
 -- the lamellae from lamella i on
 pub rest-at : (p : Panel) (i : ℕ) → i < p .count → drop i (lamellae p) ≡ lamellaAt p i ∷ drop (suc i) (lamellae p)
-unfolding lamellaeOf
-rest-at p i h =
-    drop-cons (lamellae p) i (lamella 0 0) (omega (arith, length-lamellaeOf (p .directions) (p .thicknesses) (p .count)))
-    ∙ ap (λ (l : Lamella). l ∷ drop (suc i) (lamellae p)) (getD-firsts (lamellaAt p) (p .count) i (lamella 0 0) h)
+rest-at p = rest-of (p .directions) (p .thicknesses) (p .count)
 
 -- where one more follows
 pub inner-at : (p : Panel) (i : ℕ) → i + 1 < p .count

@@ -6,6 +6,8 @@ pub mod Accepted
 pub mod Tests
 -- A turned panel meets the lines of the panel.
 pub mod Turned
+-- What is carried from depth to depth is the section, in either fire.
+pub mod Carried
 -- Unused places do not matter.
 pub mod Unused
 -- What the same build means.

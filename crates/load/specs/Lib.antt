@@ -1,5 +1,6 @@
 pub mod Failure
 pub mod LoadMinute
+pub mod LastPassing
 pub mod Exposure
 pub mod FailureTests
 pub mod Answers

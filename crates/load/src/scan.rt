@@ -1,49 +1,60 @@
-// The load minute, minute by minute. No open calls: the limits must hold, and depth 0 must pass.
+// The load minute: the last depth that passes, found once, and then the last minute whose depth is no deeper. No open calls: the limits
+// must hold, and depth 0 must pass.
 use charring::depths::tenths_in;
 use charring::fires::fire_of;
 use limits::LAST_MINUTE;
+use limits::causes::total_thickness;
 use panel::Panel;
-use section::test::depth_passes_in;
+use panel::timber::factor_of;
+use section::carry::carried_at_start;
+use section::carry::deeper;
+use section::test::section_passes;
 ghost use mathlib.Core.Path.{_≡_};
 ghost use mathlib.Core.Bool.{true};
-ghost use Prim.Native.Nat.{_-_};
-ghost use Rattle.section.specs.Tests.{depthPasses, SectionFits, ArraysOf};
+ghost use Rattle.panel.specs.Lamellae.{lamellae};
+ghost use Rattle.section.specs.Tests.{depthPasses, SectionFits};
+ghost use Rattle.section.specs.Carrying.{EachThick};
 ghost use Rattle.charring.specs.Fits.{FireFits};
-ghost use Rattle.load.specs.LoadMinute.{everyFrom, loadMinute};
+ghost use Rattle.load.specs.LastPassing.{lastPassing};
+ghost use Rattle.load.specs.LoadMinute.{loadMinute};
 
-// Whether every depth from one, which passes, to another passes.
-fn further_pass(p: Panel, directions: &[u8], thicknesses: &[u16], from: u32, to: u32) -> bool
-    requires { ⌜ SectionFits p × (depthPasses p from ≡ true) ⌝ }
-    requires { ⌜ ArraysOf p (now directions) (now thicknesses) ⌝ }
-    ensures { λ r. ⌜ r ≡ everyFrom (depthPasses p) from (to - from) ⌝ }
+// The last depth, at most the panel's thickness, to which every depth passes. The arrays are copied once, and the section is carried.
+fn last_passing(p: Panel) -> u64
+    requires { ⌜ SectionFits p × (EachThick (lamellae p) × (depthPasses p 0 ≡ true)) ⌝ }
+    ensures { λ r. ⌜ r ≡ lastPassing p ⌝ }
 {
-    let mut depth = from;
-    while depth < to {
-        depth += 1;
-        if !depth_passes_in(p, directions, thicknesses, depth) {
-            return false;
-        }
-    }
-    true
-}
-
-// Each minute's depth begins where the one before left off, so that each depth is tested once. The arrays are copied once.
-pub(crate) fn scan(p: Panel) -> u16
-    requires { ⌜ SectionFits p × (FireFits p × (depthPasses p 0 ≡ true)) ⌝ }
-    ensures { λ r. ⌜ r ≡ loadMinute p ⌝ }
-{
-    let f = fire_of(p);
     let directions = p.directions;
     let thicknesses = p.thicknesses;
-    let mut minute: u16 = 0;
-    let mut depth: u32 = tenths_in(p, f, 0);
-    while minute < LAST_MINUTE {
-        let next = tenths_in(p, f, minute as u64 + 1);
-        if !further_pass(p, &directions, &thicknesses, depth, next) {
-            return minute;
+    let factor = factor_of(p.bond);
+    let bottom = total_thickness(thicknesses, p.count) as u64;
+    let mut c = carried_at_start(&directions, &thicknesses, p.count);
+    while c.depth < bottom {
+        let next = deeper(c, &directions, &thicknesses, p.count);
+        if !section_passes(factor, p.moment, p.strength, next.section) {
+            return c.depth;
         }
-        depth = next;
-        minute += 1;
+        c = next;
     }
-    minute
+    c.depth
+}
+
+// By halving: at `minute` every depth passes, and at `beyond` one does not.
+pub(crate) fn scan(p: Panel) -> u16
+    requires { ⌜ SectionFits p × (EachThick (lamellae p) × (depthPasses p 0 ≡ true)) ⌝ }
+    requires { ⌜ FireFits p ⌝ }
+    ensures { λ r. ⌜ r ≡ loadMinute p ⌝ }
+{
+    let last = last_passing(p);
+    let f = fire_of(p);
+    let mut minute: u64 = 0;
+    let mut beyond: u64 = LAST_MINUTE as u64 + 1;
+    while minute + 1 < beyond {
+        let middle = minute + (beyond - minute) / 2;
+        if tenths_in(p, f, middle) as u64 <= last {
+            minute = middle;
+        } else {
+            beyond = middle;
+        }
+    }
+    minute as u16
 }

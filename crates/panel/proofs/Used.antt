@@ -5,7 +5,8 @@ use mathlib.Core.List.{List, [], _∷_, _++_, map}
 use mathlib.Core.Logic.{⊎-elim}
 use native.Mathlib.Nat.{eq-or-lt-of-le}
 use native.Mathlib.Omega.{arith}
-use lib.ListN.{length, getD, length-map, List·getD-append, List·getD-map, replicate}
+use lib.ListN.{length, getD, drop, length-map, List·getD-append, List·getD-map, replicate}
+use lib.Seq.{drop-cons}
 use Rattle.numbers.proofs.FirstValues.{length-firsts, firsts-agree, firsts-getD, getD-firsts}
 use Rattle.panel.specs.declared.Panel.{Panel}
 use Rattle.panel.specs.Lamellae.{
@@ -32,6 +33,14 @@ pub getD-lamellaeOf :
     (gs ts : List ℕ) (n i : ℕ) → i < n → getD (lamellaeOf gs ts n) i (lamella 0 0) ≡ lamella (getD gs i 0) (getD ts i 0)
 unfolding lamellaeOf
 getD-lamellaeOf gs ts n i h = getD-firsts (λ (i : ℕ). lamella (getD gs i 0) (getD ts i 0)) n i (lamella 0 0) h
+
+-- the lamellae from place i on
+pub rest-of :
+    (gs ts : List ℕ) (n i : ℕ) → i < n
+    → drop i (lamellaeOf gs ts n) ≡ lamella (getD gs i 0) (getD ts i 0) ∷ drop (suc i) (lamellaeOf gs ts n)
+rest-of gs ts n i h =
+    drop-cons (lamellaeOf gs ts n) i (lamella 0 0) (omega (arith, length-lamellaeOf gs ts n))
+    ∙ ap (λ (l : Lamella). l ∷ drop (suc i) (lamellaeOf gs ts n)) (getD-lamellaeOf gs ts n i h)
 
 -- an array of nine that was filled from lamellae holds their numbers
 getD-nine :
@@ -102,3 +111,14 @@ thickness-prefix gs ts i (suc n) h =
     (λ same. rw same (omega arith))
     (λ (below : i < suc n). omega (arith, thickness-more gs ts n, thickness-prefix gs ts i n (omega arith)))
     (eq-or-lt-of-le h)
+
+-- a run of lamellae is as thick as its first ones and those that follow
+pub thickness-split :
+    (gs ts : List ℕ) (n i : ℕ) → i ≤ n
+    → thickness (lamellaeOf gs ts i) + thickness (drop i (lamellaeOf gs ts n)) ≡ thickness (lamellaeOf gs ts n)
+unfolding lamellaeOf thickness
+thickness-split gs ts n zero h = omega arith
+thickness-split gs ts n (suc i) h =
+    let rest : thickness (drop i (lamellaeOf gs ts n)) ≡ getD ts i 0 + thickness (drop (suc i) (lamellaeOf gs ts n)) =
+    ap thickness (rest-of gs ts n i h) in
+    omega (arith, thickness-more gs ts i, thickness-split gs ts n i (omega arith))

@@ -13,7 +13,7 @@ use Rattle.panel.specs.Lamellae.{Lamella, lamella, lamellaeOf, thickness}
 use Rattle.panel.proofs.Used.{thickness-more, thickness-prefix}
 use Rattle.section.specs.declared.Section.{Section}
 use Rattle.section.specs.Sections.{Part, rest, counts, keepIf, countedFrom, counted, total, lowest, highest, sectionOf}
-use Rattle.section.specs.Steps.{withPart, withLamella, pickSection}
+use Rattle.section.specs.Growing.{withPart, withLamella, pickSection}
 use Rattle.section.specs.Tests.{SectionBounds}
 use Rattle.section.proofs.Chains.{Chain, none, more, counted-chain, counted-bounds}
 

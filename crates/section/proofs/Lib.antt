@@ -7,8 +7,12 @@ pub mod NothingCut
 -- At depth 0 the other face is tested alike.
 pub mod MirrorSums
 pub mod Mirroring
+-- What is carried from depth to depth is the section.
+pub mod Carrying
 -- What the functions need: sums lamella by lamella, and arrays lent.
 pub mod Growing
+pub mod FirstAlong
+pub mod CarriedArrays
 pub mod Lent
 -- Worked panels keep the limits.
 pub mod Worked

@@ -3,7 +3,9 @@ use mathlib.Core.Path.{refl}
 use native.Mathlib.Omega.{arith}
 use Rattle.panel.specs.Lamellae.{lamellaeOf, thickness}
 use Rattle.panel.specs.Worked.{g, recovers}
-use Rattle.section.specs.Tests.{SectionFits, ArraysOf}
+use Rattle.section.specs.Tests.{sectionAt, SectionFits}
+use Rattle.section.specs.Carrying.{LamellaeFit, CarriedAt}
+use Rattle.section.proofs.CarriedArrays.{carried-start}
 use Rattle.section.proofs.Lent.{own-arrays}
 
 -- both panels keep the limits
@@ -15,6 +17,12 @@ pub recovers-fits : SectionFits recovers
 unfolding lamellaeOf thickness
 recovers-fits = record { strength = omega arith; moment = omega arith; count = omega arith; thickness = omega arith }
 
--- and the arrays hold the lamellae
-pub g-arrays : ArraysOf (g 3000) (g 3000 .directions) (g 3000 .thicknesses)
-g-arrays = own-arrays (g 3000) (g-fits .count) refl refl
+-- the arrays of G are as they must be to be lent, and what is carried begins at depth 0
+pub g-arrays : LamellaeFit (g 3000 .directions) (g 3000 .thicknesses) (g 3000 .count)
+unfolding lamellaeOf
+g-arrays = own-arrays (g 3000) g-fits (omega arith, (omega arith, (omega arith, tt))) refl refl
+
+pub g-carried :
+    CarriedAt (g 3000 .directions) (g 3000 .thicknesses) (g 3000 .count)
+    (record { section = sectionAt (g 3000) 0; depth = 0; place = 0; end = 0; next = 0 })
+g-carried = carried-start (g 3000 .directions) (g 3000 .thicknesses) (g 3000 .count) (sectionAt (g 3000) 0) refl

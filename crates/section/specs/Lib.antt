@@ -1,5 +1,7 @@
 pub mod Sections
-pub mod Steps
+pub mod Growing
 pub mod Tests
 pub mod NothingCut
 pub mod Mirrored
+pub mod Carried
+pub mod Carrying

@@ -1,9 +1,6 @@
 -- Document 01, "Remaining section": when a depth passes.
 use Prim.Native.Nat.{ℕ, _-_, _*_, _≤_, max}
-use mathlib.Core.Path.{_≡_}
 use mathlib.Core.Bool.{Bool, _&&_}
-use mathlib.Core.List.{List}
-use lib.ListN.{length}
 use lib.Dec.{leb, ltb}
 use Rattle.panel.specs.declared.Panel.{Panel}
 use Rattle.panel.specs.Lamellae.{lamellae}
@@ -50,10 +47,3 @@ pub record SectionBounds (s : Section) : Type 0 where
   pub q : s .q ≤ 4000 * 4000 * 4000
   pub lo : s .lo ≤ 4000
   pub hi : s .hi ≤ 4000
-
--- a panel's arrays of directions and thicknesses, as they are lent beside it
-pub record ArraysOf (p : Panel) (gs ts : List ℕ) : Type 0 where
-  pub directions : gs ≡ p .directions
-  pub thicknesses : ts ≡ p .thicknesses
-  pub directionsHold : p .count ≤ length gs
-  pub thicknessesHold : p .count ≤ length ts

@@ -10,11 +10,11 @@ ghost use Rattle.numbers.specs.Choice.{pick};
 ghost use lib.ListN.{length};
 ghost use Rattle.panel.specs.Lamellae.{lamella, lamellaeOf, thickness};
 ghost use Rattle.section.specs.Sections.{leastRemainder, counted, sectionOf};
-ghost use Rattle.section.specs.Steps.{withPart, withLamella};
+ghost use Rattle.section.specs.Growing.{withPart, withLamella};
 ghost use Rattle.section.specs.Tests.{sectionAt, SectionFits, SectionBounds};
 
 // b² − a².
-fn squares(a: u64, b: u64) -> u64
+pub(crate) fn squares(a: u64, b: u64) -> u64
     requires { ⌜ (a ≤ b) × (b ≤ 4000) ⌝ }
     ensures { λ r. ⌜ (r ≡ b * b - a * a) × (r ≤ 16000000) ⌝ }
 {
@@ -22,18 +22,18 @@ fn squares(a: u64, b: u64) -> u64
 }
 
 // b³ − a³.
-fn cubes(a: u64, b: u64) -> u64
+pub(crate) fn cubes(a: u64, b: u64) -> u64
     requires { ⌜ (a ≤ b) × (b ≤ 4000) ⌝ }
     ensures { λ r. ⌜ (r ≡ b * b * b - a * a * a) × (r ≤ 64000000000) ⌝ }
 {
     b * b * b - a * a * a
 }
 
-// The outer end: that of the new part where it is the first.
-fn outer_end(n: u64, a: u64, lo: u64) -> u64
-    ensures { λ r. ⌜ r ≡ pick (eqb n 0) a lo ⌝ }
+// An outermost end: `none` where nothing is counted.
+pub(crate) fn where_none(n: u64, none: u64, end: u64) -> u64
+    ensures { λ r. ⌜ r ≡ pick (eqb n 0) none end ⌝ }
 {
-    if n == 0 { a } else { lo }
+    if n == 0 { none } else { end }
 }
 
 // The sums with one more counted part, from a to b, deeper than the others.
@@ -46,13 +46,13 @@ fn with_part(s: Section, a: u64, b: u64) -> Section
         n: s.n + (b - a),
         p: s.p + squares(a, b),
         q: s.q + cubes(a, b),
-        lo: outer_end(s.n, a, s.lo),
+        lo: where_none(s.n, a, s.lo),
         hi: b,
     }
 }
 
 // Whether what is left of a lamella is enough to count.
-fn is_enough(a: u64, b: u64) -> bool
+pub(crate) fn is_enough(a: u64, b: u64) -> bool
     requires { ⌜ a < 4294967296 ⌝ }
     ensures { λ r. ⌜ r ≡ leb leastRemainder (b - a) ⌝ }
 {

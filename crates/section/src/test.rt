@@ -1,6 +1,6 @@
 // Whether a depth passes.
 use crate::Section;
-use crate::sums::section_in;
+use crate::sums::section_at;
 use numbers::words64::greater;
 use numbers::words64::less;
 use panel::Panel;
@@ -8,7 +8,7 @@ use panel::timber::factor_of;
 ghost use mathlib.Core.Path.{_≡_};
 ghost use Prim.Native.Nat.{_-_, _*_, _≤_, max};
 ghost use lib.Dec.{leb};
-ghost use Rattle.section.specs.Tests.{carries, depthPasses, SectionFits, SectionBounds, ArraysOf};
+ghost use Rattle.section.specs.Tests.{carries, depthPasses, SectionFits, SectionBounds};
 
 // 2N times the distance of the outermost fibre from the centroid.
 fn edge_of(n: u64, p: u64, lo: u64, hi: u64) -> u64
@@ -56,26 +56,15 @@ pub fn section_passes(factor: u64, moment: u32, strength: u16, s: Section) -> bo
     (0 < s.n) & is_within(factor, moment, strength, e, w)
 }
 
-// The panel's arrays are lent beside it, so that a scan of depths copies none. No open call: the panel must keep the limits of
-// lines 5, 10 and 11.
-pub fn depth_passes_in(p: Panel, directions: &[u8], thicknesses: &[u16], depth: u32) -> bool
-    requires { ⌜ SectionFits p × ArraysOf p (now directions) (now thicknesses) ⌝ }
+// No open call: the panel must keep the limits of lines 5, 10 and 11.
+pub fn depth_passes(p: Panel, depth: u32) -> bool
+    requires { ⌜ SectionFits p ⌝ }
     ensures { λ r. ⌜ r ≡ depthPasses p depth ⌝ }
 {
     section_passes(
         factor_of(p.bond),
         p.moment,
         p.strength,
-        section_in(directions, thicknesses, p.count, depth),
+        section_at(p, depth),
     )
-}
-
-// No open call: the panel must keep the limits of lines 5, 10 and 11.
-pub fn depth_passes(p: Panel, depth: u32) -> bool
-    requires { ⌜ SectionFits p ⌝ }
-    ensures { λ r. ⌜ r ≡ depthPasses p depth ⌝ }
-{
-    let directions = p.directions;
-    let thicknesses = p.thicknesses;
-    depth_passes_in(p, &directions, &thicknesses, depth)
 }

@@ -1,6 +1,6 @@
 -- `section::sums::section_at` meets its contract: the panel's arrays hold nine places, and it has at most as many lamellae.
 -- Assumes nothing.
-use Rattle.section.proofs.Lent.{own-arrays}
+use native.Mathlib.Omega.{arith}
 use borrow.Author.Needs.{needs}
 use Rattle.section.proofs.sums.section_at.Statement.{statement}
 use Rattle.section.proofs.sums.section_at.Tie as tie
@@ -14,10 +14,11 @@ slice-aggregate-section-in-2 c = search needs
 
 section-in-requires : tie.Need-section-in-requires
 section-in-requires c κs =
-    let start = c .before .before .before .before in
-    let fits = start .pre in
-    let own = own-arrays (start .args .p) (fits .count) (slice-aggregate-section-in (c .before)) (slice-aggregate-section-in-2 c) in
-    ((own .directionsHold, own .thicknessesHold), fits .thickness)
+    let fits = c .before .before .before .before .pre in
+    let count = fits .count in
+    let directions = slice-aggregate-section-in (c .before) in
+    let thicknesses = slice-aggregate-section-in-2 c in
+    ((omega arith, omega arith), fits .thickness)
 
 pub section-at-spec : {M : Type 1} → statement M
 section-at-spec =

@@ -1,7 +1,7 @@
 -- `section::sums::with_part` meets its contract: each field is what its function ensures. Assumes nothing.
 use Prim.Native.Nat.{_+_, _-_}
 use borrow.Author.Needs.{needs}
-use Rattle.section.specs.Steps.{withPart}
+use Rattle.section.specs.Growing.{withPart}
 use Rattle.section.proofs.sums.with_part.Statement.{statement}
 use Rattle.section.proofs.sums.with_part.Tie as tie
 
@@ -15,7 +15,7 @@ returns c =
       n = a .s .n + (a .b - a .a);
       p = a .s .p + c4 .squares .ensures .0 i;
       q = a .s .q + c .before .before .cubes .ensures .0 i;
-      lo = c .outer-end .ensures i;
+      lo = c .where-none .ensures i;
       hi = a .b;
     }
 

@@ -1,0 +1,68 @@
+-- `section::carry::step_of` meets its contract: each branch is a case of the step. Assumes nothing.
+use Prim.Native.Nat.{_+_, _-_, _≤_, _<_}
+use mathlib.Core.Path.{_≡_, sym, _∙_}
+use native.Mathlib.Omega.{arith}
+use borrow.Author.Needs.{needs}
+use borrow.Author.Tests.{not-true, not-false, leb-true, leb-false}
+use Rattle.section.specs.declared.Section.{Section}
+use Rattle.section.specs.Carried.{cutsPart}
+use Rattle.section.specs.Carrying.{HoldsPart}
+use Rattle.section.proofs.Carrying.{cuts-when, holds-tenth, step-moves, step-drops, step-stays}
+use Rattle.section.proofs.carry.step_of.Statement.{statement}
+use Rattle.section.proofs.carry.step_of.Tie as tie
+
+returns : tie.Need-returns
+returns c =
+    let a = c .before .before .before .args in
+    sym (step-stays (a .s) (a .end) (a .next) (not-true (cutsPart (a .s) (a .end)) (c .if1 .taken)))
+
+add-later : tie.Need-add-later
+add-later c =
+    let start = c .before .before .before .before in
+    let a = start .args in
+    let cut = cuts-when (a .s) (a .end) (not-false (cutsPart (a .s) (a .end)) (c .before .if1 .left)) in
+    omega (arith, start .pre (cut .0) (cut .1) .within, cut .1)
+
+is-enough-requires : tie.Need-is-enough-requires
+is-enough-requires c κs =
+    let start = c .before .before .before .before in
+    let a = start .args in
+    let cut = cuts-when (a .s) (a .end) (not-false (cutsPart (a .s) (a .end)) (c .before .if1 .left)) in
+    omega (arith, start .pre (cut .0) (cut .1) .within, cut .1)
+
+take-off-requires : tie.Need-take-off-requires
+take-off-requires c κs =
+    let start = c .before .before .before .before .before .before in
+    let a = start .args in
+    let cut = cuts-when (a .s) (a .end) (not-false (cutsPart (a .s) (a .end)) (c .before .before .before .if1 .left)) in
+    let h = holds-tenth (a .s) (a .end) (start .pre (cut .0) (cut .1)) (cut .1) in
+    ((omega arith, h .within), (h .n, (h .p, h .q)))
+
+take-off-requires-2 : tie.Need-take-off-requires-2
+take-off-requires-2 c κs =
+    let start = c .before .before .before .before .before .before in
+    let a = start .args in
+    let cut = cuts-when (a .s) (a .end) (not-false (cutsPart (a .s) (a .end)) (c .before .before .before .if1 .left)) in
+    let h = start .pre (cut .0) (cut .1) in
+    ((omega (arith, cut .1), h .within), (h .n, (h .p, h .q)))
+
+returns-2 : tie.Need-returns-2
+returns-2 c =
+    let start = c .before .before .before .before .before .before .before in
+    let a = start .args in
+    let cut = cuts-when (a .s) (a .end) (not-false (cutsPart (a .s) (a .end)) (c .before .before .before .before .if1 .left)) in
+    c .take-off .ensures
+    ∙ sym (step-moves (a .s) (a .end) (a .next) (cut .0) (cut .1) (leb-true _ _ (sym (c .before .before .is-enough .ensures) ∙ c .before .if2 .taken)))
+
+returns-3 : tie.Need-returns-3
+returns-3 c =
+    let start = c .before .before .before .before .before .before .before in
+    let a = start .args in
+    let cut = cuts-when (a .s) (a .end) (not-false (cutsPart (a .s) (a .end)) (c .before .before .before .before .if1 .left)) in
+    c .take-off2 .ensures
+    ∙ sym (step-drops (a .s) (a .end) (a .next) (cut .0) (cut .1) (leb-false _ _ (sym (c .before .before .is-enough .ensures) ∙ c .before .if2 .left)))
+
+pub step-of-spec : {M : Type 1} → statement M
+step-of-spec =
+    tie.close
+    (tie.spec returns add-later is-enough-requires take-off-requires take-off-requires-2 returns-2 returns-3)
