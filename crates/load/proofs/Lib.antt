@@ -1,7 +1,7 @@
 -- R: what its test says, and that it is 01's load minute.
 pub mod LoadMinutes
 -- The last depth to which a panel passes decides for every time.
-pub mod LastDepths
+pub mod LastPassing
 -- The failure time and its whole part.
 pub mod WholeParts
 pub mod Closeness

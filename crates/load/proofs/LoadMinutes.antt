@@ -1,11 +1,10 @@
 -- R: its test says that every time up to a time passes, what it gives is 01's load minute, and a search may stop at the last time that
 -- passes the test. The arguments hold for any test of depths and any depths that do not fall with time.
-use Prim.Native.Nat.{ℕ, zero, suc, _+_, _-_, _*_, _≤_, _<_}
+use Prim.Native.Nat.{ℕ, zero, suc, _+_, _*_, _≤_, _<_}
 use mathlib.Core.Path.{_≡_, refl, sym, ap, _∙_}
 use mathlib.Core.Bool.{Bool, true, false, _&&_}
 use mathlib.Core.Logic.{_↔_, ⊎-elim}
 use native.Mathlib.Omega.{arith}
-use native.Mathlib.Decide.{decLe}
 use native.Mathlib.Nat.{le-refl, le-trans, mul-le-mul-right, eq-or-lt-of-le}
 use Rattle.numbers.proofs.Booleans.{and-left, and-right, not-both}
 use Rattle.numbers.proofs.LargestKept.{largest-last, largest-keeps, largest-greatest, largest-within}
@@ -22,10 +21,10 @@ use Rattle.load.specs.LoadMinute.{everyFrom, timeTest, wholePart, loadMi
 -- Depths
 
 -- each depth from `first` to `last` passes
-abbrev pub EachPasses : (ℕ → Bool) → ℕ → ℕ → Type 0
+abbrev EachPasses : (ℕ → Bool) → ℕ → ℕ → Type 0
 EachPasses passes first last = (depth : ℕ) → first ≤ depth → depth ≤ last → passes depth ≡ true
 
-pub every-from : (passes : ℕ → Bool) (first more : ℕ) → (everyFrom passes first more ≡ true) ↔ EachPasses passes first (first + more)
+every-from : (passes : ℕ → Bool) (first more : ℕ) → (everyFrom passes first more ≡ true) ↔ EachPasses passes first (first + more)
 unfolding everyFrom
 every-from passes first zero = (λ e d l u. ap passes (let z : d ≡ first = omega arith in z) ∙ e, λ h. h first (omega arith) (omega arith))
 every-from passes first (suc more) = (sound (every-from passes (suc first) more .0), complete (every-from passes (suc first) more .1))
@@ -50,18 +49,6 @@ pub every-tenth : (passes : ℕ → Bool) (deepest : ℕ) → (everyFrom passes 
 every-tenth passes deepest =
     let s = every-from passes 0 deepest in
     (λ e d u. s .0 e d (omega arith) (omega arith), λ h. s .1 (λ d l u. h d (omega arith)))
-
--- where every depth to a passes, those to b do exactly when those from a to b do
-pub every-further :
-    (passes : ℕ → Bool) (a b : ℕ) → a ≤ b → EveryTenthPasses passes a → (everyFrom passes a (b - a) ≡ true) ↔ EveryTenthPasses passes b
-every-further passes a b h before = (λ e d u. go e d u (decLe d a), λ all. further .1 (λ d l u. all d (omega arith)))
-  where
-    further : (everyFrom passes a (b - a) ≡ true) ↔ EachPasses passes a (a + (b - a))
-    further = every-from passes a (b - a)
-
-    go : everyFrom passes a (b - a) ≡ true → (d : ℕ) → d ≤ b → Dec (d ≤ a) → passes d ≡ true
-    go e d u (yes l) = before d l
-    go e d u (no l) = further .0 e d (omega arith) (omega arith)
 
 -- what is not true is false
 pub not-true-false : (b : Bool) → (b ≡ true → ⊥) → b ≡ false

@@ -1,4 +1,4 @@
--- The last depth to which a panel passes. It does not depend on time: a time passes exactly when its depth is no deeper (LastDepths in
+-- The last depth to which a panel passes. It does not depend on time: a time passes exactly when its depth is no deeper (LastPassing in
 -- proofs/).
 use Prim.Native.Nat.{ℕ}
 use Rattle.numbers.specs.Largest.{largest}

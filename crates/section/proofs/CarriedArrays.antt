@@ -13,7 +13,7 @@ use Rattle.panel.specs.Lamellae.{Lamella, lamella, lamellaeOf, thickness}
 use Rattle.panel.proofs.Used.{rest-of, thickness-more, thickness-prefix, thickness-split}
 use Rattle.section.specs.declared.Section.{Section}
 use Rattle.section.specs.declared.Carried.{Carried}
-use Rattle.section.specs.Sections.{leastRemainder, countedFrom, counted, sectionOf}
+use Rattle.section.specs.Sections.{leastRemainder, counted, sectionOf}
 use Rattle.section.specs.Carried.{step, Cut, firstAlong, cutFrom}
 use Rattle.section.specs.Carrying.{EachThick, LamellaeFit, StepFits, CarriedAt}
 use Rattle.section.proofs.Carrying.{cutting, cutting-fits, step-deeper}

@@ -1,6 +1,6 @@
 -- The step gives the section a tenth of mm deeper, so that what is carried is the section at every depth. Assumes nothing.
 use Prim.Native.Nat.{ℕ, zero, suc, _+_, _-_, _*_, _≤_, _<_, max}
-use mathlib.Core.Path.{_≡_, refl, sym, ap, _∙_}
+use mathlib.Core.Path.{_≡_, refl, ap, _∙_}
 use mathlib.Core.Bool.{Bool, true, false, _&&_, and-false}
 use mathlib.Core.List.{List, [], _∷_}
 use native.Mathlib.Numerals.{add-one}
@@ -12,8 +12,7 @@ use Rattle.numbers.proofs.Booleans.{and-left, and-right}
 use Rattle.panel.specs.Lamellae.{Lamella, along, thickness}
 use Rattle.section.specs.declared.Section.{Section}
 use Rattle.section.specs.Sections.{Part, leastRemainder, rest, counts, keepIf, countedFrom, counted, total, lowest, highest, sectionOf}
-use Rattle.section.specs.Growing.{pickSection}
-use Rattle.section.specs.Carried.{without, cutsPart, step, Cut, pickCut, firstAlong, cutFrom, carried}
+use Rattle.section.specs.Carried.{without, cutsPart, step, pickCut, firstAlong, cutFrom, carried}
 use Rattle.section.specs.Carrying.{EachThick, HoldsPart, StepFits}
 use Rattle.section.proofs.Chains.{Chain, none, more, counted-chain}
 use Rattle.section.proofs.Products.{square-rises, cube-rises}
@@ -84,6 +83,7 @@ inside depth end next bottom true xs h e c =
         let enough = leb-true leastRemainder (end - (depth + 1)) g in
         absurd (let z : ⊥ = omega arith in z)
 
+-- at any depth of any lamellae
 pub cutting :
     (depth top : ℕ) (ls : List Lamella) → top ≤ depth → EachThick ls
     → Cutting (cutFrom depth top ls .end) (cutFrom depth top ls .next) (countedFrom depth top ls) (countedFrom (depth + 1) top ls)
@@ -116,8 +116,12 @@ cutting depth top (l ∷ ls) h each =
 
 -- The step, case by case
 
+-- when the lamella being cut is counted
 pub cuts-when : (s : Section) (end : ℕ) → cutsPart s end ≡ true → (0 < s .n) × (s .lo < end)
-cuts-when s end e = (ltb-true 0 (s .n) (and-left (ltb 0 (s .n)) (ltb (s .lo) end) e), ltb-true (s .lo) end (and-right (ltb 0 (s .n)) (ltb (s .lo) end) e))
+cuts-when s end e = (
+  ltb-true 0 (s .n) (and-left (ltb 0 (s .n)) (ltb (s .lo) end) e),
+  ltb-true (s .lo) end (and-right (ltb 0 (s .n)) (ltb (s .lo) end) e),
+)
 
 -- where the sums have what lies from lo to the end, they have a tenth of it
 pub holds-tenth : (s : Section) (end : ℕ) → HoldsPart s end → s .lo < end → HoldsPart s (s .lo + 1)
@@ -158,19 +162,19 @@ moved-section : (depth end : ℕ) (xs : List Part) → depth + 1 < end
     → without (sectionOf (part depth end ∷ xs)) (part depth (depth + 1)) (depth + 1) ≡ sectionOf (part (depth + 1) end ∷ xs)
 unfolding without sectionOf total lowest
 moved-section depth end xs h =
-    let squares = square-rises (depth + 1) end (omega arith) in
-    let cubes = cube-rises (depth + 1) end (omega arith) in
     λ i.
     record {
-      n = n i;
-      p = p squares i;
-      q = q cubes i;
+      n = shorter (λ (x : ℕ). x) (λ x y xy. xy) i;
+      p = shorter (λ (x : ℕ). x * x) square-rises i;
+      q = shorter (λ (x : ℕ). x * x * x) cube-rises i;
       lo = depth + 1;
       hi = hi i;
     }
   where
-    n : end - depth + total (λ (x : ℕ). x) xs - (depth + 1 - depth) ≡ end - (depth + 1) + total (λ (x : ℕ). x) xs
-    n = omega arith
+    shorter :
+        (f : ℕ → ℕ) → ((x y : ℕ) → x ≤ y → f x ≤ f y)
+        → f end - f depth + total f xs - (f (depth + 1) - f depth) ≡ f end - f (depth + 1) + total f xs
+    shorter f rises = omega (arith, rises depth (depth + 1) (omega arith), rises (depth + 1) end (omega arith))
 
     hi :
         pick (eqb (end - depth + total (λ (x : ℕ). x) xs - (depth + 1 - depth)) 0) 0 (highest (part depth end ∷ xs))
@@ -178,19 +182,6 @@ moved-section depth end xs h =
     hi =
         rw (ne-eqb (end - depth + total (λ (x : ℕ). x) xs - (depth + 1 - depth)) 0 (λ e. omega arith))
         (highest-same depth (depth + 1) end xs)
-
-    p :
-        (depth + 1) * (depth + 1) ≤ end * end
-        → end * end - depth * depth + total (λ (x : ℕ). x * x) xs - ((depth + 1) * (depth + 1) - depth * depth)
-        ≡ end * end - (depth + 1) * (depth + 1) + total (λ (x : ℕ). x * x) xs
-    p below = omega arith
-
-    q :
-        (depth + 1) * (depth + 1) * (depth + 1) ≤ end * end * end
-        → end * end * end - depth * depth * depth + total (λ (x : ℕ). x * x * x) xs
-        - ((depth + 1) * (depth + 1) * (depth + 1) - depth * depth * depth)
-        ≡ end * end * end - (depth + 1) * (depth + 1) * (depth + 1) + total (λ (x : ℕ). x * x * x) xs
-    q below = omega arith
 
 -- The sums without the first part
 

@@ -1,13 +1,13 @@
 -- The search for the next lamella along in two arrays: what is sought stays the same from lamella to lamella. Assumes nothing.
-use Prim.Native.Nat.{ℕ, suc, _+_, _≤_, _<_}
-use mathlib.Core.Path.{_≡_, refl, sym, ap, _∙_}
-use mathlib.Core.List.{List, [], _∷_}
+use Prim.Native.Nat.{ℕ, _+_, _≤_, _<_}
+use mathlib.Core.Path.{_≡_, sym, ap, _∙_}
+use mathlib.Core.List.{List, []}
 use native.Mathlib.Numerals.{add-one}
 use native.Mathlib.Omega.{arith}
 use lib.ListN.{getD, drop}
 use lib.Seq.{drop-length}
 use borrow.Author.Tests.{eq-eqb, ne-eqb}
-use Rattle.panel.specs.Lamellae.{Lamella, lamella, lamellaeOf, thickness}
+use Rattle.panel.specs.Lamellae.{lamellaeOf, thickness}
 use Rattle.panel.proofs.Used.{length-lamellaeOf, rest-of}
 use Rattle.section.specs.Carried.{firstAlong}
 

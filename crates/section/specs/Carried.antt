@@ -10,7 +10,7 @@ use Rattle.section.specs.declared.Section.{Section}
 use Rattle.section.specs.Sections.{Part, leastRemainder, counted, sectionOf}
 use Rattle.section.specs.Growing.{pickSection}
 
--- the sums without what the first part begins with; `first` is where the counted parts begin then, and where none is left hi is 0
+-- the sums without x, with which the first part begins; the counted parts begin at `first` then, and where none is left hi is 0
 unfoldable pub without : Section → Part → ℕ → Section
 without s x first =
     record {
@@ -26,8 +26,9 @@ without s x first =
 abbrev pub cutsPart : Section → ℕ → Bool
 cutsPart s end = ltb 0 (s .n) && ltb (s .lo) end
 
--- the step, where the lamella being cut ends at `end` and the next along one begins at `next`, 0 where there is none: the first part begins
--- a tenth of mm later, or, where less than 3.0 mm would be left of it, is dropped
+-- the step, where the lamella being cut ends at `end` and the next along one begins at `next`, 0 where there is none. What is left of the
+-- lamella begins a tenth of mm later; where less than 3.0 mm would be left it is dropped, and the next along one comes first; where it is not
+-- counted nothing changes
 unfoldable pub step : Section → ℕ → ℕ → Section
 step s end next =
     pickSection (cutsPart s end)

@@ -7,7 +7,7 @@ use Rattle.panel.specs.Lamellae.{Lamella, lamellaeOf}
 use Rattle.section.specs.declared.Section.{Section}
 use Rattle.section.specs.declared.Carried.{Carried}
 use Rattle.section.specs.Sections.{leastRemainder, counted, sectionOf}
-use Rattle.section.specs.Carried.{Cut, cutFrom}
+use Rattle.section.specs.Carried.{cutFrom}
 
 -- of line 11: each lamella is thick enough to be counted until it is cut
 abbrev pub EachThick : List Lamella → Type 0
@@ -38,4 +38,6 @@ pub record CarriedAt (gs ts : List ℕ) (count : ℕ) (c : Carried) : Type 0 whe
   pub end : c .end ≡ Rattle.panel.specs.Lamellae.thickness (lamellaeOf gs ts (c .place))
   pub reached : c .depth ≤ c .end
   -- what the step is given from here to the end of the last lamella begun
-  pub cut : (depth : ℕ) → c .depth ≤ depth → depth < c .end → cutFrom depth 0 (lamellaeOf gs ts count) ≡ record { end = c .end; next = c .next }
+  pub cut :
+      (depth : ℕ) → c .depth ≤ depth → depth < c .end
+      → cutFrom depth 0 (lamellaeOf gs ts count) ≡ record { end = c .end; next = c .next }

@@ -1,7 +1,7 @@
 -- `load::scan::last_passing` meets its contract: every depth to the present one passes, and the first that does not decides. Assumes
 -- nothing.
 use Prim.Native.Nat.{ℕ, _+_, _-_, _≤_, _<_}
-use Rattle.load.proofs.LastDepths.{last-found}
+use Rattle.load.proofs.LastPassing.{last-found}
 use Rattle.load.specs.Failure.{EveryTenthPasses}
 use Rattle.panel.specs.Lamellae.{lamellae, thickness}
 use Rattle.panel.specs.Timber.{factorOf}
@@ -14,7 +14,7 @@ use Rattle.section.specs.declared.Carried.{Carried}
 use Rattle.section.specs.declared.Section.{Section}
 use borrow.Author.Needs.{needs}
 use borrow.Author.Tests.{not-true, not-false}
-use mathlib.Core.Bool.{Bool, true, false}
+use mathlib.Core.Bool.{Bool, true}
 use mathlib.Core.Logic.{⊎-elim}
 use mathlib.Core.Path.{_≡_, sym, ap, ap₂, _∙_}
 use native.Mathlib.Nat.{eq-or-lt-of-le}

@@ -1,7 +1,7 @@
 -- `load::scan::scan` meets its contract: `minute` passes and `beyond` does not, until they are neighbours. Assumes nothing.
 use Prim.Native.Nat.{ℕ, suc, _-_, _≤_, _<_}
 use Rattle.charring.specs.Depths.{tenthsAt}
-use Rattle.load.proofs.LastDepths.{time-by-depth}
+use Rattle.load.proofs.LastPassing.{time-by-depth}
 use Rattle.load.proofs.LoadMinutes.{test-zero, load-last}
 use Rattle.load.specs.LastPassing.{lastPassing}
 use Rattle.load.specs.LoadMinute.{timeTest}

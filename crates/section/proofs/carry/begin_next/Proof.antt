@@ -1,6 +1,6 @@
 -- `section::carry::begin_next` meets its contract: before all lamellae are passed another follows, and it is cut then. Assumes nothing.
-use Prim.Native.Nat.{_+_, _<_, _≤_}
-use mathlib.Core.Path.{_≡_, refl, ap}
+use Prim.Native.Nat.{_+_}
+use mathlib.Core.Path.{refl, ap}
 use native.Mathlib.Omega.{arith}
 use borrow.Author.Needs.{needs}
 use Rattle.section.proofs.CarriedArrays.{next-there, next-fits, carried-next}
