@@ -23,9 +23,9 @@ import random_records
 
 ROOM = 65_000  # bytes of one input
 GROUP = 300    # cases of one input
-FEW = 4        # cases of one input where each is many steps: a depth table, a load minute
+FEW = 4        # cases of one input where each is many steps: a depth table, a section carried, a load minute
 BUILT = 5      # lines that a case of test_panels prints
-MANY_STEPS = ("table", "card", "load", "reserve", "loadgrade", "reigrade")
+MANY_STEPS = ("table", "carried", "card", "load", "reserve", "loadgrade", "reigrade")
 
 
 def random_space(rng, record):
@@ -133,7 +133,7 @@ def cases(call, seed, count):
             yield record, text
         elif call == "write":
             yield random_space(rng, record), record, text
-        elif call == "section":
+        elif call in ("section", "carried"):
             yield random_depth(rng, record), record, text
         elif call == "build":
             yield record, partner(rng, record), text

@@ -3,6 +3,7 @@
 What a program must print is worked out by peer.py, never by the program itself.
 """
 import os
+from itertools import accumulate
 
 import needs
 import peer
@@ -390,6 +391,42 @@ def section_cases():
         yield depth, peer.encode(LONGEST), f"nine lamellae at {depth:,}"
     for panel, text in reading_cases():
         yield 71, peer.encode(panel), f"{text}, at 71"
+    yield from end_cases()
+
+
+def carried_cases():
+    """(depth, record, text)"""
+    yield from end_cases()
+    yield 0, g, "G at 0"
+    for depth in (1_001, 2 ** 32 - 1):
+        yield depth, g, f"G at {depth:,}, past its thickness"
+    for depth in (570, 1_301):
+        yield depth, peer.encode(faced(RECOVERS, EACH_ALONE)), f"the panel that recovers, face 2, at {depth:,}"
+    yield 71, peer.encode(G._replace(moment=43_057)), "a refused record, so a blank panel"
+
+
+def end_cases():
+    """(depth, record, text): in either fire."""
+    for panel, text in end_panels():
+        for fire in (faced(panel, FIRST_FACE), faced(panel, LAST_FACE)):
+            for depth in about_ends(fire):
+                yield depth, peer.encode(fire), f"{text}, face {fire.face}, at {depth:,}"
+
+
+def end_panels():
+    """(panel, text): one lamella; two, the last across; nine of 10 to 60 mm, 400 mm together, the first across, two along and two across
+    side by side. Some of the depths about their ends pass in either fire, and some do not."""
+    yield plate(100)._replace(moment=41), "one"
+    yield crossed(40, 20)._replace(moment=41), "two"
+    yield G._replace(moment=30_480, lamellae=(
+        (ACROSS, 100), (ALONG, 600), (ALONG, 263), (ACROSS, 600), (ACROSS, 537), (ALONG, 100), (ACROSS, 600), (ALONG, 600),
+        (ALONG, 600))), "nine"
+
+
+def about_ends(fire):
+    """The depths about every lamella end: with 3.0 mm left a lamella counts, with less it does not, and at its end the next one is cut."""
+    ends = accumulate(thickness for _, thickness in peer.from_fire(fire))
+    return [end - left for end in ends for left in (31, 30, 29, 1, 0)]
 
 
 def build_cases():
@@ -1050,7 +1087,8 @@ def built_lines():
 # ---------------------------------------------------------------- Files
 
 # the word of the call: its cases
-CASES = {"read": record_cases, "write": write_cases, "build": build_cases, "section": section_cases,
+CASES = {"read": record_cases, "write": write_cases, "build": build_cases,
+         "section": section_cases, "carried": carried_cases,
          "char": char_cases, "table": table_cases,
          "time": time_cases, "sum": sum_cases, "grade": grade_cases, "rei": rei_cases,
          "card": card_cases, "refusal": refusal_cases, "load": panel_record_cases, "reserve": reserve_cases,

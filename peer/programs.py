@@ -55,6 +55,11 @@ def section_answer(depth, record, text):
     return f"{' '.join(map(str, numbers))} {'passes' if passes else 'fails'} {text}"
 
 
+def carried_answer(depth, record, text):
+    """The section is carried no further than to the panel's thickness."""
+    return section_answer(min(depth, peer.thickness_of(panel_of(record).lamellae)), record, text)
+
+
 def compared(a, b):
     """Of two panels the first is checked before the second."""
     refusal = peer.panel_refusal(a) or peer.panel_refusal(b)
@@ -204,7 +209,10 @@ PROGRAMS = {
         "read": (read_line, read_answer),
         "write": (write_line, write_answer),
         "build": (build_line, build_answer),
+    },
+    "test_sections": {
         "section": (section_line, section_answer),
+        "carried": (section_line, carried_answer),
     },
     "test_charring": {
         "char": (char_line, char_answer),

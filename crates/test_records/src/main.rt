@@ -1,4 +1,4 @@
-// The test program whose stored input is about records and the panels in them: `read`, `write`, `build`, `section`.
+// The test program whose stored input is about records and the panels in them: `read`, `write`, `build`.
 fn main() {
     test_run::run();
 }

@@ -31,8 +31,17 @@ fn answer_records(line: &[u8]) {
         writes::answer(rest);
     } else if is_word(line, b"build") {
         builds::answer(rest);
-    } else if is_word(line, b"section") {
-        sections::answer(rest);
+    } else {
+        answer_sections(line);
+    }
+}
+
+fn answer_sections(line: &[u8]) {
+    let rest = after_word(line);
+    if is_word(line, b"section") {
+        sections::answer_section(rest);
+    } else if is_word(line, b"carried") {
+        sections::answer_carried(rest);
     } else {
         answer_charring(line);
     }
