@@ -1,7 +1,8 @@
-/* The card in plain C, by the steps of the Rattle code, to compare their cost: the record is read and checked, the load minute is
-   found minute by minute with each tenth of mm tested once and its section worked out anew, what is the same at every minute is worked
-   out once, basic times come from tables and late layer times from halving, and the text is made aside and copied. A panel with its fire
-   on the last face is turned once; with a fire on each face it is worked as it lies and turned.
+/* The card in plain C, by the steps of the Rattle code, to compare their cost: the record is read and checked, the section is worked out
+   at depth 0 and then carried to the last depth that passes, each tenth of mm tested once, the load minute is found from that depth by
+   halving, what is the same at every minute is worked out once, basic times come from tables and late layer times from halving, and the
+   text is made aside and copied. A panel with its fire on the last face is turned once; with a fire on each face it is worked as it lies
+   and turned.
    tables.h is written by run.py. */
 #include <stdbool.h>
 #include <string.h>

@@ -38,7 +38,7 @@ fn last_passing(p: Panel) -> u64
     c.depth
 }
 
-// By halving: at `minute` every depth passes, and at `beyond` one does not.
+// By halving: every depth to that of `minute` passes; to that of `beyond` not all do, or it is past the last minute.
 pub(crate) fn scan(p: Panel) -> u16
     requires { ⌜ SectionFits p × (EachThick (lamellae p) × (depthPasses p 0 ≡ true)) ⌝ }
     requires { ⌜ FireFits p ⌝ }

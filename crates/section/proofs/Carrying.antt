@@ -8,13 +8,13 @@ use native.Mathlib.Omega.{arith}
 use lib.Dec.{eqb, leb, ltb}
 use borrow.Author.Tests.{ne-eqb, leb-true, leb-false, le-leb, lt-leb, ltb-true, ltb-false, lt-ltb, le-ltb}
 use Rattle.numbers.specs.Choice.{pick}
-use Rattle.numbers.proofs.Booleans.{and-left, and-right}
+use Rattle.numbers.proofs.Booleans.{and-left, and-right, not-both}
 use Rattle.panel.specs.Lamellae.{Lamella, along, thickness}
 use Rattle.section.specs.declared.Section.{Section}
 use Rattle.section.specs.Sections.{Part, leastRemainder, rest, counts, keepIf, countedFrom, counted, total, lowest, highest, sectionOf}
 use Rattle.section.specs.Carried.{without, cutsPart, step, pickCut, firstAlong, cutFrom, carried}
 use Rattle.section.specs.Carrying.{EachThick, HoldsPart, StepFits}
-use Rattle.section.proofs.Chains.{Chain, none, more, counted-chain}
+use Rattle.section.proofs.Chains.{Chain, none, more, counts-forward, counted-chain}
 use Rattle.section.proofs.Products.{square-rises, cube-rises}
 
 -- a part from a to b
@@ -150,6 +150,40 @@ unfolding sectionOf total lowest
 stays-uncut (none below) = refl
 stays-uncut {end = end} (more {x = x} {xs = xs} after forward c) =
     rw (le-ltb (x .from) end after) (and-false (ltb 0 (x .to - x .from + total (λ (y : ℕ). y) xs)))
+
+-- what the step asks of the sums is whether the lamella being cut is counted, and where it is, lo is the depth
+pub cuts-counted :
+    (depth top : ℕ) (l : Lamella) (ls : List Lamella) → top ≤ depth → depth < top + l .thickness
+    → (cutsPart (sectionOf (countedFrom depth top (l ∷ ls))) (top + l .thickness) ≡ counts depth top l)
+    × (counts depth top l ≡ true → sectionOf (countedFrom depth top (l ∷ ls)) .lo ≡ depth)
+unfolding countedFrom sectionOf total lowest
+cuts-counted depth top l ls h inside = go (counts depth top l) refl
+  where
+    end : ℕ
+    end = top + l .thickness
+
+    below : List Part
+    below = countedFrom depth end ls
+
+    go :
+        (b : Bool) → counts depth top l ≡ b
+        → (cutsPart (sectionOf (keepIf b (rest depth top l) below)) end ≡ b) × (b ≡ true → sectionOf (keepIf b (rest depth top l) below) .lo ≡ depth)
+    go true e = (
+      rw (
+        lt-ltb 0 (rest depth top l .to - rest depth top l .from + total (λ (x : ℕ). x) below) (omega (arith, counts-forward depth top l e)),
+        lt-ltb (rest depth top l .from) end (counts-forward depth top l e),
+      ),
+      λ _. let z : max depth top ≡ depth = omega arith in z,
+    )
+    go false e = (stays-uncut (counted-chain depth end (end + thickness ls) ls (omega arith)), λ f. absurd (not-both false f refl))
+
+-- so where it lies across, the step changes nothing
+pub across-stays :
+    (depth top next : ℕ) (l : Lamella) (ls : List Lamella) → top ≤ depth → depth < top + l .thickness → along l ≡ false
+    → step (sectionOf (countedFrom depth top (l ∷ ls))) (top + l .thickness) next ≡ sectionOf (countedFrom depth top (l ∷ ls))
+across-stays depth top next l ls h inside across =
+    step-stays (sectionOf (countedFrom depth top (l ∷ ls))) (top + l .thickness) next
+    (cuts-counted depth top l ls h inside .0 ∙ ap (λ (b : Bool). b && leb leastRemainder (rest depth top l .to - rest depth top l .from)) across)
 
 -- The sums with the first part a tenth shorter
 

@@ -1,5 +1,4 @@
-// The section carried from one depth to the next, a tenth of mm deeper (document 02, 4/14). No open calls: the limits of line 11 must hold,
-// and what is handed on must be what is carried to a depth.
+// The section carried from one depth to the next, a tenth of mm deeper (document 02, 4/14).
 use crate::Carried;
 use crate::Section;
 use crate::sums::cubes;
@@ -95,7 +94,7 @@ fn cut_here(c: Carried, directions: &[u8], thicknesses: &[u16], count: usize) ->
     begin_next(c, directions, thicknesses, count)
 }
 
-// One tenth of mm deeper.
+// One tenth of mm deeper. No open call: what is handed in must be carried to a depth short of the panel's thickness.
 pub fn deeper(c: Carried, directions: &[u8], thicknesses: &[u16], count: usize) -> Carried
     requires { ⌜ LamellaeFit (now directions) (now thicknesses) count × CarriedAt (now directions) (now thicknesses) count c ⌝ }
     requires { ⌜ c .depth < thickness (lamellaeOf (now directions) (now thicknesses) count) ⌝ }
@@ -112,7 +111,7 @@ pub fn deeper(c: Carried, directions: &[u8], thicknesses: &[u16], count: usize) 
     }
 }
 
-// At depth 0, where no lamella is cut yet.
+// At depth 0, where no lamella is cut yet. No open call: the lamellae must keep the limits of line 11.
 pub fn carried_at_start(directions: &[u8], thicknesses: &[u16], count: usize) -> Carried
     requires { ⌜ LamellaeFit (now directions) (now thicknesses) count ⌝ }
     ensures { λ r. ⌜ CarriedAt (now (directions .entry)) (now (thicknesses .entry)) count r × (r .depth ≡ 0) ⌝ }
