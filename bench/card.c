@@ -1,8 +1,8 @@
 /* The card in plain C, by the steps of the Rattle code, to compare their cost: the record is read and checked, the section is worked out
-   at depth 0 and then carried to the last depth that passes, each tenth of mm tested once, the load minute is found from that depth by
-   halving, what is the same at every minute is worked out once, basic times come from tables and late layer times from halving, and the
-   text is made aside and copied. A panel with its fire on the last face is turned once; with a fire on each face it is worked as it lies
-   and turned.
+   at depth 0 and then carried to the last depth that passes, each tenth of mm tested once, and not where N stays, the last second that
+   passes is found from that depth by halving, what is the same at every time is worked out once, basic times come from tables and late
+   layer times from halving, and the text is made aside and copied. A panel with its fire on the last face is turned once; with a fire on
+   each face it is worked as it lies and turned.
    tables.h is written by run.py. */
 #include <stdbool.h>
 #include <string.h>
@@ -67,11 +67,11 @@ static Section section_at(const Panel *p, uint64_t depth)
     return s;
 }
 
-static bool section_passes(const Panel *p, Section s)
+static bool section_passes(uint32_t moment, uint16_t strength, Section s)
 {
     uint64_t e = larger(s.p - 2 * s.n * s.lo, 2 * s.n * s.hi - s.p);
     uint64_t w = 4 * s.n * s.q - 3 * s.p * s.p;
-    return 0 < s.n && UINT64_C(120000) * p->moment * e <= UINT64_C(23) * p->strength * w;
+    return 0 < s.n && UINT64_C(120000) * moment * e <= UINT64_C(23) * strength * w;
 }
 
 /* ---- the section carried from depth to depth */
@@ -94,12 +94,23 @@ static void take_off(Section *s, uint64_t a, uint64_t b, uint64_t lo)
         s->hi = 0;
 }
 
+/* Without the tenth of mm with which the first part begins. */
+static void take_tenth(Section *s)
+{
+    s->n--;
+    s->p -= 2 * s->lo + 1;
+    s->q -= 3 * s->lo * (s->lo + 1) + 1;
+    s->lo++;
+    if (s->n == 0)
+        s->hi = 0;
+}
+
 static void step(Section *s, uint64_t end, uint64_t next)
 {
     if (s->n == 0 || end <= s->lo)
         return;
     if (s->lo + 1 + 30 <= end)
-        take_off(s, s->lo, s->lo + 1, s->lo + 1);
+        take_tenth(s);
     else
         take_off(s, s->lo, end, next);
 }
@@ -124,13 +135,16 @@ static void deeper(const Panel *p, Carried *c)
     c->depth++;
 }
 
-/* The last depth, at most `bottom`, to which every depth passes. */
+/* The last depth, at most `bottom`, to which every depth passes. Where N stays the section does, and is not tested again. */
 static uint64_t last_passing(const Panel *p, uint64_t bottom)
 {
+    uint32_t moment = p->moment;
+    uint16_t strength = p->strength;
     Carried c = {section_at(p, 0), 0, 0, 0, 0};
     while (c.depth < bottom) {
+        uint64_t n = c.section.n;
         deeper(p, &c);
-        if (!section_passes(p, c.section))
+        if (c.section.n != n && !section_passes(moment, strength, c.section))
             return c.depth - 1;
     }
     return c.depth;
@@ -225,7 +239,7 @@ static int read_record(const uint8_t *b, size_t length, Panel *p)
         return 11;
     if (!along)
         return 12;
-    return section_passes(p, section_at(p, 0)) ? 0 : 13;
+    return section_passes(p->moment, p->strength, section_at(p, 0)) ? 0 : 13;
 }
 
 static Panel turned(const Panel *p)
@@ -238,7 +252,7 @@ static Panel turned(const Panel *p)
     return t;
 }
 
-/* ---- charring */
+/* ---- charring at n/q minutes, worked out times q, so that nothing is lost; up to q 60 it fits */
 
 static Fire fire_of(const Panel *p)
 {
@@ -258,61 +272,63 @@ static Fire fire_of(const Panel *p)
     return f;
 }
 
-static void cross(Place *s, uint64_t to)
+static void cross(Place *s, uint64_t to, uint64_t q)
 {
-    uint64_t fast = beyond(smaller(s->end, to), s->from), settled = beyond(to, larger(s->from, s->end));
+    uint64_t fast = q * beyond(smaller(s->end, to), s->from), settled = q * beyond(to, larger(s->from, s->end));
     s->gained += 2 * smaller(s->left, fast) + smaller(beyond(s->left, fast), 2 * settled);
     s->left = beyond(beyond(s->left, fast), 2 * settled);
     s->from = to;
     s->end = to + UINT64_C(25000000000);
 }
 
-static uint64_t walk(const Panel *p, const Fire *f, uint64_t x)
+static uint64_t walk(const Panel *p, const Fire *f, uint64_t x, uint64_t q)
 {
     Place s = {f->depth, f->end, x, 0};
     uint64_t line = 0;
     for (size_t i = 0; i + 1 < p->count; i++) {
         line += UINT64_C(100000000) * p->thicknesses[i];
         if (p->bond == 1 && s.from <= line)
-            cross(&s, line);
+            cross(&s, line, q);
     }
-    cross(&s, f->back);
+    cross(&s, f->back, q);
     return s.gained;
 }
 
-/* In half picometres. */
-static uint64_t char_of(const Panel *p, const Fire *f, uint64_t time)
+/* In half picometres, times q. */
+static uint64_t char_of(const Panel *p, const Fire *f, uint64_t n, uint64_t q)
 {
-    uint64_t under = 2 * f->slow * smaller(beyond(time, f->start), f->failure - f->start);
-    uint64_t after = walk(p, f, 2 * f->plain * beyond(time, f->failure));
-    return smaller(under + after, 2 * f->back);
+    uint64_t time = 1000 * n;
+    uint64_t under = 2 * f->slow * smaller(beyond(time, q * f->start), q * (f->failure - f->start));
+    uint64_t after = walk(p, f, 2 * f->plain * beyond(time, q * f->failure), q);
+    return smaller(under + after, 2 * q * f->back);
 }
 
 static uint32_t micrometres_in(const Panel *p, const Fire *f, uint64_t minute)
 {
-    return (uint32_t)((char_of(p, f, 1000 * minute) + 1999999) / 2000000);
+    return (uint32_t)((char_of(p, f, minute, 1) + 1999999) / 2000000);
 }
 
-static uint32_t tenths_in(const Panel *p, const Fire *f, uint64_t minute)
+/* What is divided is times q and f->full: at most 6e18. */
+static uint32_t tenths_in(const Panel *p, const Fire *f, uint64_t n, uint64_t q)
 {
-    uint64_t time = 1000 * minute, by = 200000000 * f->full;
-    uint64_t n = smaller(f->full * char_of(p, f, time) + UINT64_C(14000000000) * smaller(time, f->full), 2 * f->full * f->back);
-    return (uint32_t)((n + (by - 1)) / by);
+    uint64_t full = q * f->full, by = 200000000 * full;
+    uint64_t deep = smaller(f->full * char_of(p, f, n, q) + UINT64_C(14000000000) * smaller(1000 * n, full), 2 * full * f->back);
+    return (uint32_t)((deep + (by - 1)) / by);
 }
 
-/* ---- the load minute */
+/* ---- the failure time's whole seconds */
 
-static uint32_t load_minute(const Panel *p, const Fire *f)
+static uint32_t load_second(const Panel *p, const Fire *f)
 {
-    uint64_t last = last_passing(p, f->back / 100000000), minute = 0, past = 361;
-    while (minute + 1 < past) {
-        uint64_t middle = minute + (past - minute) / 2;
-        if (tenths_in(p, f, middle) <= last)
-            minute = middle;
+    uint64_t last = last_passing(p, f->back / 100000000), second = 0, past = 60 * 360 + 1;
+    while (second + 1 < past) {
+        uint64_t middle = second + (past - second) / 2;
+        if (tenths_in(p, f, middle, 60) <= last)
+            second = middle;
         else
             past = middle;
     }
-    return (uint32_t)minute;
+    return (uint32_t)second;
 }
 
 /* ---- layer times, in hundredths of a minute */
@@ -380,12 +396,28 @@ static uint8_t *put_field(uint8_t *at, uint32_t n)
     return at;
 }
 
-static uint8_t *put_line(uint8_t *at, const char *head, const uint32_t *numbers, size_t count)
+static uint8_t *put_head(uint8_t *at, const char *head)
 {
     while (*head != 0)
         *at++ = (uint8_t)*head++;
+    return at;
+}
+
+static uint8_t *put_line(uint8_t *at, const char *head, const uint32_t *numbers, size_t count)
+{
+    at = put_head(at, head);
     for (size_t i = 0; i < count; i++)
         at = put_field(at, numbers[i]);
+    *at++ = '\n';
+    return at;
+}
+
+static uint8_t *put_time(uint8_t *at, const char *head, uint32_t minutes, uint32_t seconds)
+{
+    at = put_field(put_head(at, head), minutes);
+    *at++ = ':';
+    *at++ = (uint8_t)('0' + seconds / 10);
+    *at++ = (uint8_t)('0' + seconds % 10);
     *at++ = '\n';
     return at;
 }
@@ -407,16 +439,18 @@ int32_t yurbantse_card(const uint8_t *bytes, size_t bytes_length, uint8_t *out, 
     if (p.face == 1)
         p = turned(&p);
     Fire f = fire_of(&p);
-    uint32_t load = load_minute(&p, &f), ei = ei_minute(&p);
+    uint32_t second = load_second(&p, &f), ei = ei_minute(&p);
     if (p.face == 2) { /* the numbers of f do not look at the order of the lamellae */
         Panel t = turned(&p);
-        load = (uint32_t)smaller(load, load_minute(&t, &f));
+        second = (uint32_t)smaller(second, load_second(&t, &f));
         ei = (uint32_t)smaller(ei, ei_minute(&t));
     }
+    uint32_t load = second / 60;
     uint8_t space[YURBANTSE_CARD_MOST], *at = put_line(space, "CARD", (uint32_t[]){p.version}, 1);
     for (uint32_t minute = 30; minute <= 120; minute += 30)
-        at = put_line(at, "CHAR", (uint32_t[]){minute, micrometres_in(&p, &f, minute), tenths_in(&p, &f, minute)}, 3);
+        at = put_line(at, "CHAR", (uint32_t[]){minute, micrometres_in(&p, &f, minute), tenths_in(&p, &f, minute, 1)}, 3);
     at = put_line(at, "R", (uint32_t[]){load, grade(load)}, 2);
+    at = put_time(at, "RS", load, second % 60);
     at = put_line(at, "EI", (uint32_t[]){ei, grade(ei)}, 2);
     at = put_line(at, "REI", (uint32_t[]){grade(load < ei ? load : ei)}, 1);
     return deliver(space, (size_t)(at - space), out, out_length);

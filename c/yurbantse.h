@@ -21,11 +21,12 @@ extern "C" {
 #endif
 
 /* No card is longer. */
-#define YURBANTSE_CARD_MOST 232
+#define YURBANTSE_CARD_MOST 249
 
 /* Writes the card of the record in `bytes` into `out`: lines of ASCII, each ending in a line feed, with no 0 after the last.
    CARD has the record's version; CHAR has the minute, the char depth in micrometres and the effective depth in tenths of mm; R and EI have
-   minutes and grades. For face 2 these are the lesser of the two fires, and the depths those of the first face.
+   minutes and grades, RS the minutes and seconds that the load is borne. For face 2 these are the lesser of the two fires, and the depths
+   those of the first face.
 
    Answers the number of bytes written; what `out` held after them stays. Or answers minus the number of the refusal, and `out` is as it
    was, every byte of it:

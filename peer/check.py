@@ -1,13 +1,15 @@
-"""check.py [N]: holds peer.py to the figures of documents 01 and 02 and of the notes on its readings, R to its definition on the panels
-of test_cards, in either fire, and on N random ones, and the last face's fire to that of a panel recorded the other way round."""
+"""check.py [N]: holds peer.py to the figures of documents 01 and 02 and of the notes on its readings, R and RS to their definition on the
+panels of test_cards, in either fire, and on N random ones, and the last face's fire to that of a panel recorded the other way round."""
 import argparse
 import random
 from fractions import Fraction
+from itertools import chain
 
 import peer
 import random_records
 from make_cases import (A, ALONG, F, G, H, LONGEST, O, P, RECOVERS, SHORTEST, behind, clad, crossed, faced, falls, load_panels, one,
-                        patched, plate, reading_cases, two, wall_panels, with_first_lamella, with_length)
+                        patched, plate, reading_cases, second_panels, second_walls, two, wall_panels, with_first_lamella,
+                        with_length)
 from peer import Board, EACH_ALONE, FIRST_FACE, LAST_FACE
 
 ROLES = ("protection", "insulation")
@@ -18,6 +20,7 @@ CHAR 60 39000 460
 CHAR 90 58500 655
 CHAR 120 78000 850
 R 103 90
+RS 103:41
 EI 95 90
 REI 90
 """
@@ -43,7 +46,7 @@ def check_document():
     same(peer.k0(one(), 20), Fraction(20, 21))
     same([peer.char(falls(G, 65), minute)[0] for minute in (60, 90)], [48, 72])
     same([peer.panel_refusal(G._replace(moment=moment)) for moment in (43_056, 43_057)], [0, 13])
-    same(peer.exact_failure(G), Fraction(6_740, 65))
+    same((peer.exact_failure(G), peer.load_time(G)), (Fraction(6_740, 65), (103, 41)))
     same([peer.load_minute(panel) for panel in (G, falls(G, 65), G._replace(moment=0))], [103, 84, 138])
     same([peer.depth_passes(RECOVERS, depth) for depth in (70, 71)], [False, True])
     same([peer.entry(f"gypsum_{role}", 150) for role in ROLES], [3000, 2400])
@@ -54,7 +57,7 @@ def check_document():
     same([peer.panel_refusal(with_first_lamella(G, ALONG, thickness)) for thickness in (99, 100)], [11, 0])
     same(peer.card_text(peer.encode(G)), PRINTED)
     same(peer.card_text(peer.encode(G._replace(moment=43_057))), b"REFUSED 13\n")
-    same([peer.card_call(peer.encode(G), space) for space in (105, 104)], [(0, 105), (14, 0)])
+    same([peer.card_call(peer.encode(G), space) for space in (115, 114)], [(0, 115), (14, 0)])
 
 
 def check_wood_boards():
@@ -99,7 +102,7 @@ def check_faces(panel):
     same(depths(each), depths(first))
     same(peer.card(first).partition(b"\n")[2], peer.card(panel).partition(b"\n")[2])
     same(peer.card(last), peer.card(turned))
-    for minute_of in (peer.load_minute, peer.ei_sum, peer.ei_minute):
+    for minute_of in (peer.load_minute, peer.load_time, peer.ei_sum, peer.ei_minute):
         same(minute_of(last), minute_of(turned))
         same(minute_of(each), min(minute_of(first), minute_of(last)))
     same(peer.depth_passes(first, 0), peer.depth_passes(last, 0))
@@ -122,13 +125,14 @@ def check_readings():
                             ("001c0100410000f000000000020000000058005a6441000964010100", 6)):  # 8
         same(peer.card_text(bytes.fromhex(record)), b"REFUSED %d\n" % refusal)
     panel = of("00190100500000f0000001f4010000ee4846007d6401010258")
-    same((peer.exact_failure(panel), peer.load_minute(panel)), (83, 83))
-    same((peer.exact_failure(G._replace(moment=42_000)), peer.load_minute(G._replace(moment=42_000))), (Fraction(48, 60), 0))
-    same((peer.exact_failure(G._replace(moment=43_056)), peer.load_minute(G._replace(moment=43_056))), (0, 0))
+    same((peer.exact_failure(panel), peer.load_minute(panel), peer.load_time(panel)), (83, 83, (83, 0)))
+    for moment, failure, time in ((42_000, Fraction(48, 60), (0, 48)), (43_056, 0, (0, 0))):
+        panel = G._replace(moment=moment)
+        same((peer.exact_failure(panel), peer.load_minute(panel), peer.load_time(panel)), (failure, 0, time))
 
 
 def check_load_minutes(count):
-    for panel, _ in list(load_panels()) + list(reading_cases()) + list(wall_panels()):
+    for panel, _ in chain(load_panels(), reading_cases(), second_panels(), second_walls(), wall_panels()):
         peer.check_load_minute(faced(panel, EACH_ALONE))
         check_faces(panel)
     rng = random.Random(1)

@@ -23,9 +23,9 @@ import random_records
 
 ROOM = 65_000  # bytes of one input
 GROUP = 300    # cases of one input
-FEW = 4        # cases of one input where each is many steps: a depth table, a section carried, a load minute
+FEW = 4        # cases of one input where each is many steps: a depth table, a section carried, a load minute, its seconds
 BUILT = 5      # lines that a case of test_panels prints
-MANY_STEPS = ("table", "carried", "card", "load", "reserve", "loadgrade", "reigrade")
+MANY_STEPS = ("table", "carried", "card", "load", "seconds", "reserve", "loadgrade", "reigrade")
 
 
 def random_space(rng, record):

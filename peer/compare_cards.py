@@ -19,9 +19,10 @@ import peer
 import random_records
 from random_records import any_face, any_record
 
-LONGEST = 232  # bytes of a card, at most
+LONGEST = 249  # bytes of a card, at most
 LENGTHS = 129  # of records that are cut or filled up, from 0 on
 LONG = 54      # bytes of a record, at most
+ROOM = bytes(1 + i % 255 for i in range(LONGEST + 16))  # what stands in the lent space and behind it
 
 
 def changed(rng, place):
@@ -56,17 +57,16 @@ def record_of(seed, number):
 
 def called(function, space, *words):
     """What a function answers, and what it leaves in a lent space; beyond the space nothing may change."""
-    room = bytearray(range(1, LONGEST + 17))
+    room = bytearray(ROOM)
     out = (ctypes.c_ubyte * len(room)).from_buffer(room)
     answer = function(*words, out, ctypes.c_size_t(space))
     return answer, bytes(room)
 
 
 def expected(text, refusal, space):
-    room = bytes(range(1, LONGEST + 17))
     if refusal or space < len(text):
-        return -(refusal or 14), room
-    return len(text), text + room[len(text):]
+        return -(refusal or 14), ROOM
+    return len(text), text + ROOM[len(text):]
 
 
 def differs(library, seed, number):

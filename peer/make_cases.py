@@ -818,6 +818,52 @@ def wood_board_loads():
         yield behind(RECOVERS, (kind, 200)), f"the panel that recovers, behind {chr(kind)} of 200"
 
 
+def loaded_to(panel, depth):
+    """The panel with the greatest moment at which a depth in tenths of mm passes."""
+    return panel._replace(moment=greatest_moment(panel, depth))
+
+
+def second_panels():
+    """(panel, text): failure times at, before and after a whole second, a whole minute and 360 minutes, behind every type of board."""
+    for panel, text in (
+            (G._replace(rate=60, moment=3_500), "G, rate 60, at a whole minute"),
+            (G._replace(rate=60, moment=3_000), "G, rate 60, at a whole second"),
+            (loaded_to(G._replace(rate=100), 1), "G, rate 100, the soonest after 0:00"),
+            (falls(G, 73)._replace(moment=10_563), "G falling, in the second after a whole minute"),
+            (falls(G, 73)._replace(moment=2_716), "G falling, in the second before a whole minute"),
+            (loaded_to(crossed(40, 40, 40, 40, 40)._replace(rate=73), 1_093), "five of 40, seconds below 10"),
+            (one(A, 90)._replace(moment=34_298), "A, in the second after a whole minute"),
+            (one(O, 200)._replace(moment=35_079), "O, just before a whole minute"),
+            (one(P, 225)._replace(moment=32_461), "P, at a whole minute"),
+            (one(H, 125, gap=1)._replace(moment=42_560), "H, wide gap, before charring"),
+            (one(F, 150, failure_time=37_500)._replace(moment=31_667), "F, before it fails"),
+            (one(F, 150, failure_time=37_500), "F, after it failed"),
+            (falls(one(F, 125, failure_time=41_000), 80), "F, falling"),
+            (behind(G._replace(moment=31_534), (H, 125), (A, 125)), "H over A, seconds below 10"),
+            (loaded_to(behind(LASTING._replace(rate=63), (O, 280)), 2_267), "400 mm, just before 360 minutes"),
+            (loaded_to(behind(LASTING._replace(rate=73), (A, 141)), 2_637), "400 mm, just after 360 minutes")):
+        yield panel, f"{text}, exact {peer.fire_failure(panel)}"
+
+
+def second_walls():
+    """(panel, text): both fires fail in one minute, or one lasts, each way round."""
+    for first, last, face in ((300, 302, "first"), (302, 300, "last")):
+        wall = G._replace(moment=10_000, lamellae=((ALONG, first), (ACROSS, 400), (ALONG, last)))
+        yield wall, f"wall, in the same minute sooner from the {face} face"
+        yield falls(wall._replace(moment=2_000), 65), f"wall falling, in the same minute sooner from the {face} face"
+    along, across = ((ALONG, 600),), ((ACROSS, 600),) * 5
+    for lamellae, face in ((along + across, "last"), (across + along, "first")):
+        yield LASTING._replace(moment=5_000, lamellae=lamellae), f"360 mm, lasts from the {face} face"
+
+
+def second_records():
+    """(record, text)"""
+    for panel, text in second_panels():
+        yield peer.encode(panel), text
+    for panel, text in second_walls():
+        yield peer.encode(faced(panel, EACH_ALONE)), f"{text}, face 2"
+
+
 def unstarred_cases():
     """(record, text)"""
     for thickness in (100, 99):
@@ -868,8 +914,8 @@ def space_cases():
     for space in (0, 10, 11):
         yield peer.encode(G._replace(moment=43_057)), space, f"G, moment 43,057, refused before the space of {space} is looked at"
     yield b"", 0, "no bytes, no space"
-    for space in (104, 105):
-        yield g_each, space, f"G, face 2, 105 bytes into {space}"
+    for space in (length - 1, length):
+        yield g_each, space, f"G, face 2, {length} bytes into {space}"
 
 
 def both_versions():
@@ -897,7 +943,7 @@ def card_cases():
     for panel, text in reading_cases():
         yield peer.encode(panel), 200, text
     yield peer.encode(LONGEST), 200, "the longest record"
-    for record, text in face_cases():
+    for record, text in list(second_records()) + list(face_cases()):
         yield record, 200, text
     for record, text in list(unstarred_cases()) + list(refused_cases()):
         yield record, 200, text
@@ -925,6 +971,16 @@ def panel_record_cases():
     yield peer.encode(faced(behind(WALL, (A, 125)), EACH_ALONE)), "wall behind A, face 2"
     yield peer.encode(G._replace(moment=43_057)), "a refused record, so a blank panel"
     yield b"", "no bytes, so a blank panel"
+
+
+def seconds_cases():
+    """(record, text)"""
+    yield from panel_record_cases()
+    yield from second_records()
+    for panel, text in second_walls():
+        for face in (FIRST_FACE, LAST_FACE):
+            yield peer.encode(faced(panel, face)), f"{text}, face {face}"
+    yield peer.encode(faced(RECOVERS, EACH_ALONE)), "the panel that recovers, face 2"
 
 
 def reserve_cases():
@@ -1091,7 +1147,8 @@ CASES = {"read": record_cases, "write": write_cases, "build": build_cases,
          "section": section_cases, "carried": carried_cases,
          "char": char_cases, "table": table_cases,
          "time": time_cases, "sum": sum_cases, "grade": grade_cases, "rei": rei_cases,
-         "card": card_cases, "refusal": refusal_cases, "load": panel_record_cases, "reserve": reserve_cases,
+         "card": card_cases, "refusal": refusal_cases, "load": panel_record_cases, "seconds": seconds_cases,
+         "reserve": reserve_cases,
          "loadgrade": grade_panel_cases, "eigrade": grade_panel_cases, "reigrade": grade_panel_cases}
 
 # the program that prints a card: what it reads

@@ -464,33 +464,51 @@ def load_minute(panel):
     return min(map(fire_minute, fires(panel)))
 
 
-def scanned_minute(fire):
-    """R of one fire found by trying one whole minute after the other: the last before one fails, at most 360."""
-    tried = -1
-    for minute in range(361):
-        depth = effective_tenths(fire, minute)
-        if not all(depth_passes(fire, tenth) for tenth in range(tried + 1, depth + 1)):
-            return minute - 1
-        tried = depth
-    return 360
+def fire_time(fire):
+    """RS of one fire, (minutes, seconds): its failure time's whole seconds, or 360:00 where it lasts."""
+    return divmod(min(360 * 60, floor(60 * fire_failure(fire))), 60)
+
+
+def load_time(panel):
+    """RS of an accepted panel: the lesser of its fires."""
+    return min(map(fire_time, fires(panel)))
+
+
+def time_answer(panel):
+    """(refusal, (minutes, seconds))"""
+    refusal = panel_refusal(panel)
+    return (refusal, (0, 0)) if refusal else (0, load_time(panel))
+
+
+def scanned_time(fire):
+    """RS of one fire found by trying one whole minute after the other, up to 360, and from the last before one fails on the seconds."""
+    tried, second = 0, 0  # the last depth and the last time found to pass; depth 0 does
+    for step in (60, 1):
+        while second + step <= 360 * 60:
+            depth = effective_tenths(fire, Fraction(second + step, 60))
+            if not all(depth_passes(fire, tenth) for tenth in range(tried + 1, depth + 1)):
+                break
+            tried, second = depth, second + step
+    return divmod(second, 60)
 
 
 def check_closeness(panel):
-    """Holds R and the exact failure time to the definition of a passing time."""
-    r, failure = load_minute(panel), exact_failure(panel)
-    assert time_passes(panel, r), panel
+    """Holds RS and the exact failure time to the definition of a passing time, and R to RS, whose minutes it is."""
+    (minutes, seconds), failure = load_time(panel), exact_failure(panel)
+    time, second, soon = minutes + Fraction(seconds, 60), Fraction(1, 60), Fraction(1, 10 ** 9)
+    assert load_minute(panel) == minutes and 0 <= seconds < 60 and time_passes(panel, time), panel
     if failure is None:
-        assert r == 360, panel
+        assert time == 360, panel
         return
-    soon = Fraction(1, 10 ** 9)
-    assert r <= failure < r + 1 and r < 360, panel
-    assert time_passes(panel, failure) and not time_passes(panel, failure + soon) and not time_passes(panel, r + 1), panel
+    assert time <= failure < time + second and time < 360, panel
+    assert time_passes(panel, failure) and not time_passes(panel, failure + soon) and not time_passes(panel, time + second), panel
 
 
 def check_load_minute(panel):
-    """Holds R of an accepted panel to the definition: of each fire with its own load minute, and the printed one."""
+    """Holds R and RS of an accepted panel to the definition: of each fire with its own, and the printed ones."""
     for fire in fires(panel):
-        assert load_minute(fire) == scanned_minute(fire), fire
+        minutes, seconds = scanned_time(fire)
+        assert load_minute(fire) == minutes and load_time(fire) == (minutes, seconds), fire
         assert effective_depth(fire, fire_failure(fire)) * 10 == first_failing(fire) - 1, fire
         check_closeness(fire)
     check_closeness(panel)
@@ -644,10 +662,10 @@ CARD_MINUTES = (30, 60, 90, 120)
 
 def card(panel):
     """The bytes of an accepted panel's card."""
-    r, ei = load_minute(panel), ei_minute(panel)
+    r, (minutes, seconds), ei = load_minute(panel), load_time(panel), ei_minute(panel)
     lines = [f"CARD {panel.version}"]
     lines += [f"CHAR {minute} {micrometres(panel, minute)} {effective_tenths(panel, minute)}" for minute in CARD_MINUTES]
-    lines += [f"R {r} {grade(r)}", f"EI {ei} {grade(ei)}", f"REI {rei(r, ei)}"]
+    lines += [f"R {r} {grade(r)}", f"RS {minutes}:{seconds:02}", f"EI {ei} {grade(ei)}", f"REI {rei(r, ei)}"]
     return "".join(f"{line}\n" for line in lines).encode("ascii")
 
 

@@ -187,6 +187,15 @@ def load_answer(record, text):
     return number_or_refusal((refusal, None if refusal else peer.load_minute(panel)), text)
 
 
+def seconds_line(record, text):
+    return f"{word(record)} {text}"
+
+
+def seconds_answer(record, text):
+    refusal, (minutes, seconds) = peer.time_answer(panel_of(record))
+    return number_or_refusal((refusal, f"{minutes} {seconds}"), text)
+
+
 def reserve_line(record, wanted, text):
     return f"{word(record)} {wanted} {text}"
 
@@ -228,6 +237,7 @@ PROGRAMS = {
         "card": (card_line, card_answer),
         "refusal": (refusal_line, refusal_answer),
         "load": (load_line, load_answer),
+        "seconds": (seconds_line, seconds_answer),
         "reserve": (reserve_line, reserve_answer),
         "loadgrade": (panel_grade_line, panel_grade_answer(peer.load_grade)),
         "eigrade": (panel_grade_line, panel_grade_answer(peer.ei_grade)),

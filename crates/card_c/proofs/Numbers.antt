@@ -11,11 +11,12 @@ use mir.Facts.{toZ-pos}
 use Rattle.limits.specs.Lines.{Line, answer}
 use Rattle.fire_card.specs.declared.CardAnswer.{CardAnswer}
 use Rattle.fire_card.specs.declared.CardAnswer.the-variants.{Written, Refused}
+use Rattle.fire_card.specs.Card.{cardMost}
 use Rattle.fire_card.specs.Answers.{textRefusal, textAnswer}
 use Rattle.card_c.specs.Exported.{exported, Short}
 
 -- a text no longer than the longest card is answered by a short number
-pub short-text : (table : List Line) (text space : List ℕ) → length text ≤ 232 → Short (textAnswer table text space)
+pub short-text : (table : List Line) (text space : List ℕ) → length text ≤ cardMost → Short (textAnswer table text space)
 unfolding textAnswer
 short-text table text space h = go (textRefusal table text space)
   where
@@ -24,7 +25,7 @@ short-text table text space h = go (textRefusal table text space)
     go (suc n) = tt
 
 -- and so are its bytes
-pub short-bytes : (a : CardAnswer) (k : ℕ) → Short a → a ≡ Written k → k ≤ 232
+pub short-bytes : (a : CardAnswer) (k : ℕ) → Short a → a ≡ Written k → k ≤ cardMost
 short-bytes a k h e = subst Short e h
 
 -- a number that is not negative is that of bytes written

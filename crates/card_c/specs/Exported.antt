@@ -3,6 +3,7 @@ use Prim.Native.Nat.{_≤_}
 use lib.IntN.{ℤ, pos, negℤ}
 use Rattle.fire_card.specs.declared.CardAnswer.{CardAnswer}
 use Rattle.fire_card.specs.declared.CardAnswer.the-variants.{Written, Refused}
+use Rattle.fire_card.specs.Card.{cardMost}
 
 -- the bytes written, or minus the refusal's number
 abbrev pub exported : CardAnswer → ℤ
@@ -11,5 +12,5 @@ exported (Refused n) = negℤ (pos n)
 
 -- no more is written than the longest card
 abbrev pub Short : CardAnswer → Type 0
-Short (Written k) = k ≤ 232
+Short (Written k) = k ≤ cardMost
 Short (Refused n) = Unit

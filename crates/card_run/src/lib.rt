@@ -2,6 +2,7 @@
 // differ in their stored input share it.
 pub mod texts;
 
+use fire_card::CARD_MOST;
 use libc::STDERR_FILENO;
 use libc::STDIN_FILENO;
 use libc::STDOUT_FILENO;
@@ -39,7 +40,7 @@ fn print(bytes: &[u8], text: &[u8])
 pub fn run() {
     let mut bytes = [0u8; 64];
     let n = read_input(&mut bytes);
-    let mut text = [0u8; 232];
+    let mut text = [0u8; CARD_MOST];
     let k = text_for(&bytes[..n], &mut text);
     print(&bytes[..n], &text[..k]);
 }

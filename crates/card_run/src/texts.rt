@@ -4,11 +4,11 @@ ghost use mathlib.Core.Path.{_≡_};
 ghost use Prim.Native.Nat.{_≤_};
 ghost use lib.ListN.{length, take};
 ghost use Rattle.io.specs.Counts.{Counts};
-ghost use Rattle.fire_card.specs.Card.{refusalText};
+ghost use Rattle.fire_card.specs.Card.{cardMost, refusalText};
 ghost use Rattle.fire_card.specs.Printed.{printedText};
 
 fn refusal_into(n: u8, out: &mut [u8]) -> usize
-    requires { ⌜ 232 ≤ length (now out) ⌝ }
+    requires { ⌜ cardMost ≤ length (now out) ⌝ }
     ensures { λ r. ⌜ Counts r (now (out .exit)) ⌝ }
     ensures { λ r. ⌜ take r (now (out .exit)) ≡ refusalText n ⌝ }
 {
@@ -20,7 +20,7 @@ fn refusal_into(n: u8, out: &mut [u8]) -> usize
 
 // The card, or the text of the refusal.
 pub fn text_for(bytes: &[u8], out: &mut [u8]) -> usize
-    requires { ⌜ 232 ≤ length (now out) ⌝ }
+    requires { ⌜ cardMost ≤ length (now out) ⌝ }
     ensures { λ r. ⌜ Counts r (now (out .exit)) ⌝ }
     ensures { λ r. ⌜ take r (now (out .exit)) ≡ printedText (now (bytes .entry)) ⌝ }
 {

@@ -6,7 +6,7 @@ use native.Mathlib.Omega.{arith}
 use lib.ListN.{length, take, getD, length-append}
 use lib.Seq.{take-suc}
 use native.Mathlib.Numerals.{add-one}
-use Rattle.card_text.specs.Text.{decimal, textFields, textLine}
+use Rattle.card_text.specs.Text.{decimal, textFields, textLine, timeLine}
 use Rattle.card_text.proofs.Digits.{decimal-length}
 
 pub length-fields : (ns : List ℕ) → length (textFields ns) ≤ 11 * length ns
@@ -16,6 +16,9 @@ length-fields (n ∷ ns) = simp length-append (omega (arith, decimal-length n, l
 
 pub length-line : (head ns : List ℕ) → length (textLine head ns) ≤ length head + 11 * length ns + 1
 length-line head ns = simp length-append (omega (arith, length-fields ns))
+
+pub length-time : (head : List ℕ) (minutes seconds : ℕ) → length (timeLine head minutes seconds) ≤ length head + 15
+length-time head minutes seconds = simp length-append (omega (arith, decimal-length minutes))
 
 -- one number more, at the end
 pub fields-more : (ns : List ℕ) (n : ℕ) → textFields (ns ++ (n ∷ [])) ≡ textFields ns ++ (32 ∷ decimal n)

@@ -23,6 +23,14 @@ textFields (n ∷ ns) = (32 ∷ decimal n) ++ textFields ns
 abbrev pub textLine : List ℕ → List ℕ → List ℕ
 textLine head ns = head ++ textFields ns ++ (10 ∷ [])
 
+-- a number below 100 in two digits
+abbrev pub twoDigits : ℕ → List ℕ
+twoDigits n = (48 + n / 10) ∷ (48 + n % 10) ∷ []
+
+-- document 02, 5/14: "a line `RS` with both numbers, two digits for the seconds", as `RS 103:41`
+abbrev pub timeLine : List ℕ → ℕ → ℕ → List ℕ
+timeLine head minutes seconds = head ++ (32 ∷ decimal minutes) ++ (58 ∷ twoDigits seconds) ++ (10 ∷ [])
+
 -- Reading back
 
 -- what follows the first byte `mark`; nothing where there is none
@@ -38,6 +46,10 @@ numberFrom v (c ∷ cs) = elim (outside 48 57 c) [ true ↦ v | false ↦ number
 -- the number in the first field of a line
 abbrev pub firstNumber : List ℕ → ℕ
 firstNumber text = numberFrom 0 (after 32 text)
+
+-- the number after a colon, as the seconds stand in a line
+abbrev pub numberAfterColon : List ℕ → ℕ
+numberAfterColon text = numberFrom 0 (after 58 text)
 
 -- no byte of the text is `mark`
 abbrev pub free : ℕ → List ℕ → Bool

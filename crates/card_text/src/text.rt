@@ -2,7 +2,7 @@
 ghost use Prim.Native.Nat.{_+_, _*_, _≤_};
 ghost use mathlib.Core.List.{_∷_};
 ghost use lib.ListN.{length};
-ghost use Rattle.card_text.specs.Text.{decimal, textFields, textLine};
+ghost use Rattle.card_text.specs.Text.{decimal, textFields, textLine, timeLine};
 ghost use Rattle.card_text.specs.Stores.{Put};
 
 fn put_number(out: &mut [u8], at: usize, n: u32) -> usize
@@ -63,4 +63,15 @@ pub fn put_line(out: &mut [u8], at: usize, head: &[u8], numbers: &[u32]) -> usiz
     let end = put_fields(out, first, numbers);
     out[end] = 10;
     end + 1
+}
+
+// A line with a time: its head, a blank, the minutes, a colon, the seconds in two digits, and a line feed. No open call: the longest such
+// line must fit into the bytes from `at` on.
+pub fn put_time(out: &mut [u8], at: usize, head: &[u8], minutes: u32, seconds: u8) -> usize
+    requires { ⌜ at + length (now head) + 15 ≤ length (now out) ⌝ }
+    ensures { λ r. ⌜ Put (now (out .entry)) at (timeLine (now (head .entry)) minutes seconds) (length (now (head .entry)) + 15) r (now (out .exit)) ⌝ }
+{
+    let first = put_bytes(out, at, head);
+    let colon = put_field(out, first, minutes);
+    put_bytes(out, colon, &[58, 48 + seconds / 10, 48 + seconds % 10, 10])
 }

@@ -8,13 +8,15 @@ use Rattle.limits.specs.Refusals.{panelRefusal}
 use Rattle.charring.specs.declared.Phase.{Phase}
 use Rattle.charring.specs.Phases.{phaseAt}
 use Rattle.load.specs.Failure.{TimePasses, IsFailureTime}
-use Rattle.load.specs.LoadMinute.{printedLoad}
+use Rattle.load.specs.LoadMinute.{printedLoad, printedLoadSeconds, minutesIn, secondsOver}
 
 pub data Case : Type 0 where
   -- a definition gives a number: what it gives, and what the document says
   gives : ℕ → ℕ → Case
   -- a panel is accepted, and the load minute R that is printed for it is so many minutes
   bears : Panel → ℕ → Case
+  -- a panel is accepted, and the time printed for it is so many minutes and seconds
+  lasts : Panel → ℕ → ℕ → Case
   -- in a fire, given as the panel that has it on its first face, the failure time is exactly n/q minutes
   failureTime : Panel → ℕ → ℕ → Case
   -- in such a fire the panel is in a phase at n/q minutes
@@ -24,6 +26,8 @@ pub data Case : Type 0 where
 abbrev pub Holds : Case → Type 0
 Holds (gives worked said) = worked ≡ said
 Holds (bears p m) = (panelRefusal p ≡ 0) × (printedLoad p ≡ m)
+Holds (lasts p minutes seconds) =
+    (panelRefusal p ≡ 0) × ((minutesIn (printedLoadSeconds p) ≡ minutes) × (secondsOver (printedLoadSeconds p) ≡ seconds))
 Holds (failureTime p n q) = IsFailureTime (TimePasses p) n q
 Holds (inPhase p n q f) = phaseAt p n q ≡ f
 

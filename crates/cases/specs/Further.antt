@@ -1,5 +1,5 @@
 -- Cases worked through further, by hand: of document 01's "Charring" what its starred lines leave out, with the phases; and of document
--- 02 panels behind wood-based boards and walls with a fire on either face.
+-- 02 panels behind wood-based boards, walls with a fire on either face, and failure times in minutes and seconds.
 use Prim.Native.Nat.{ℕ}
 use mathlib.Core.List.{List, [], _∷_}
 use Rattle.panel.specs.declared.Cladding.{Cladding}
@@ -8,7 +8,7 @@ use Rattle.panel.specs.declared.Panel.{Panel}
 use Rattle.panel.specs.Boards.{charringStart}
 use Rattle.panel.specs.Faces.{turned, shown}
 use Rattle.panel.specs.Lamellae.{lamella}
-use Rattle.panel.specs.Worked.{panelWith, gLamellae, boardOf, board125}
+use Rattle.panel.specs.Worked.{panelWith, g, gLamellae, boardOf, board125}
 use Rattle.limits.specs.Refusals.{panelRefusal}
 use Rattle.charring.specs.declared.Phase.the-variants.{Fast, Settled}
 use Rattle.panel.specs.declared.Material.the-variants.{Osb, ParticleBoard}
@@ -18,7 +18,7 @@ use Rattle.charring.specs.Depths.{charAt, micrometresAt}
 use Rattle.basic_times.specs.declared.Role.the-variants.{Protection, Insulation}
 use Rattle.basic_times.specs.Rules.{basicTime}
 use Rattle.layers.specs.Layers.{eiSum, printedEi}
-use Rattle.cases.specs.Cases.{Case, gives, bears, failureTime, inPhase, hundredths, hundredThousandths}
+use Rattle.cases.specs.Cases.{Case, gives, bears, lasts, failureTime, inPhase, hundredths, hundredThousandths}
 
 -- Panels
 
@@ -39,6 +39,10 @@ gBehindF = panelWith 0 65 0 240 3000 41000 (One (board125 70)) gLamellae
 -- A 12.5 over A 15.0
 abbrev pub twoA : Panel
 twoA = one 0 0 (Two (board125 65) (boardOf 65 150))
+
+-- G at β 50 with no moment behind two boards of type F 25.0 that fail at 360 min
+abbrev pub gLasting : Panel
+gLasting = panelWith 0 50 0 240 0 360000 (Two (boardOf 70 250) (boardOf 70 250)) gLamellae
 
 -- two F 12.5, t_f 80 min
 abbrev pub twoF : Panel
@@ -131,6 +135,7 @@ further =
     -- like G it fails as 74.4 mm no longer carry, that is at 67.4 mm of char, 42.4/0.65 min later
     ∷ bears (panelOf behindO) 106
     ∷ failureTime (panelOf behindO) 693443 6500
+    ∷ lasts (panelOf behindO) 106 41
     ∷ gives (eiSum (panelOf behindO)) 10068
     -- P 40.0: t_ch = t_f = 44.444 min, k0 full then; 25 mm at 63.675 min; fails at 67.4 mm of char
     ∷ gives (recordRefusal behindP) 0
@@ -148,12 +153,15 @@ further =
     ∷ gives (charAt (panelOf (wall 0)) 50 1) (hundredths 4500 1)
     ∷ bears (panelOf (wall 0)) 57
     ∷ failureTime (panelOf (wall 0)) 750 13
+    ∷ lasts (panelOf (wall 0)) 57 41
     -- from its last: the first line is at 40 mm; it fails as 35.8 mm no longer carry, that is at 28.8 mm of char, after 28.8/0.65 min
     ∷ gives (charAt (turned (panelOf (wall 1))) 50 1) (hundredths 3250 1)
     ∷ bears (panelOf (wall 1)) 44
     ∷ failureTime (turned (panelOf (wall 1))) 576 13
+    ∷ lasts (panelOf (wall 1)) 44 18
     -- from each alone: R is that of the last face, EI that of the first, and what is shown is that of the first
     ∷ bears (panelOf (wall 2)) 44
+    ∷ lasts (panelOf (wall 2)) 44 18
     ∷ gives (eiSum (panelOf (wall 2))) 8233
     ∷ gives (eiSum (turned (panelOf (wall 2)))) 8881
     ∷ gives (printedEi (panelOf (wall 0))) 82
@@ -161,4 +169,16 @@ further =
     ∷ gives (printedEi (panelOf (wall 2))) 82
     ∷ gives (micrometresAt (shown (panelOf (wall 1))) 50 1) 32500
     ∷ gives (micrometresAt (shown (panelOf (wall 2))) 50 1) 45000
+    -- G, M 3,000: 6,740/65 min are 103 min and 41.5 s
+    ∷ lasts (g 3000) 103 41
+    -- within the first minute the effective depth is 1 mm/min: M 42,000 is carried to 0.8 mm, which is 48 s exactly, and M 43,056 at depth 0
+    -- alone
+    ∷ bears (g 42000) 0
+    ∷ failureTime (g 42000) 4 5
+    ∷ lasts (g 42000) 0 48
+    ∷ failureTime (g 43056) 0 1
+    ∷ lasts (g 43056) 0 0
+    -- t_ch 112 min, from there 0.55·0.50 mm/min: 68.2 mm of char and 75.2 mm of effective depth at 360 min, which leave 24.8 mm
+    ∷ bears gLasting 360
+    ∷ lasts gLasting 360 0
     ∷ []

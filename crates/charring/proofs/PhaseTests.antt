@@ -15,9 +15,9 @@ use Rattle.charring.specs.Phases.{phaseOn, phaseAt}
 use Rattle.charring.specs.Fits.{FireOf, CharOf}
 use Rattle.charring.proofs.Minutes.{char-is}
 
-module _ (p : Panel) (f : Fire) (n char : ℕ) (o : FireOf p f) (h : CharOf p f (1000 * n) char) where
+module _ (p : Panel) (f : Fire) (n char : ℕ) (o : FireOf p f) (h : CharOf p f n 1 char) where
   through-test : (t : Bool) → leb (2 * f .back) char ≡ t → leb (2 * 1 * backFace p) (charAt p n 1) ≡ t
-  through-test t e = rw (← char-is p f n char o h, ← o .back) e
+  through-test t e = rw (← char-is p f n 1 char o h, ← o .back) e
 
   start-test : (t : Bool) → ltb (1000 * n) (f .start) ≡ t → ltb (1000 * n) (1 * startOf p) ≡ t
   start-test t e = rw (one-mul (startOf p), ← o .start) e

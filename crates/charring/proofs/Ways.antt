@@ -4,7 +4,7 @@ use mathlib.Core.Path.{_≡_, refl, sym, ap, _∙_}
 use mathlib.Core.Bool.{Bool, true, false}
 use mathlib.Core.List.{List, [], _∷_}
 use native.Mathlib.Omega.{arith}
-use native.Mathlib.Nat.{add-assoc, one-mul}
+use native.Mathlib.Nat.{add-assoc}
 use native.Mathlib.Numerals.{add-one}
 use borrow.Author.Tests.{le-ltb, leb-true, leb-false, lt-ltb}
 use lib.ListN.{length, drop, getD}
@@ -24,9 +24,9 @@ abbrev pub linesIf : Bool → ℕ → List Lamella → List ℕ
 linesIf true top ls = linesFrom top ls
 linesIf false top ls = []
 
--- what comes out of a place, with the lines still to come
-abbrev pub comes : Place → List ℕ → ℕ → ℕ
-comes s lines back = s .gained + charred (stretches (s .from) (s .end) lines back) (s .left) 1
+-- what comes out of a place, times q, with the lines still to come
+abbrev pub comes : ℕ → Place → List ℕ → ℕ → ℕ
+comes q s lines back = s .gained + charred (stretches (s .from) (s .end) lines back) (s .left) q
 
 -- a line that is still to come, and a line passed before t_f
 pub to-line : (from end line : ℕ) (lines : List ℕ) (back : ℕ) → from ≤ line
@@ -39,18 +39,18 @@ unfolding stretches
 past-line from end line lines back h = rw (stretches, lt-ltb line from h)
 
 -- the next line ends a run anyhow, so that a run may be taken to end 25 mm past its line
-same-end : (line : ℕ) (l : Lamella) (ls : List Lamella) (back x : ℕ)
-    → charred (stretches line (lineEnd line (linesFrom line (l ∷ ls))) (linesFrom line (l ∷ ls)) back) x 1
-    ≡ charred (stretches line (line + fastRun) (linesFrom line (l ∷ ls)) back) x 1
+same-end : (line : ℕ) (l : Lamella) (ls : List Lamella) (back x q : ℕ)
+    → charred (stretches line (lineEnd line (linesFrom line (l ∷ ls))) (linesFrom line (l ∷ ls)) back) x q
+    ≡ charred (stretches line (line + fastRun) (linesFrom line (l ∷ ls)) back) x q
 unfolding linesFrom lineEnd stretches charred
-same-end line l [] back x = refl
-same-end line l (m ∷ ls) back x =
+same-end line l [] back x q = refl
+same-end line l (m ∷ ls) back x q =
     let next = line + tenth * l .thickness in
     let lines = linesFrom next (m ∷ ls) in
     let below : line ≤ next = omega arith in
-    ap (λ (ss : List Stretch). charred ss x 1) (to-line line (min (line + fastRun) next) next lines back below)
+    ap (λ (ss : List Stretch). charred ss x q) (to-line line (min (line + fastRun) next) next lines back below)
     ∙ rw (fast-same line (line + fastRun) next, settled-same line (line + fastRun) next)
-    (ap (λ (ss : List Stretch). charred ss x 1) (sym (to-line line (line + fastRun) next lines back below)))
+    (ap (λ (ss : List Stretch). charred ss x q) (sym (to-line line (line + fastRun) next lines back below)))
   where
     fast-same : (line end next : ℕ) → min (min end next) next - line ≡ min end next - line
     fast-same line end next = omega arith
@@ -59,35 +59,35 @@ same-end line l (m ∷ ls) back x =
     settled-same line end next = omega arith
 
 -- a stretch to a line
-cross-keeps : (s r : Place) (line : ℕ) (l : Lamella) (ls : List Lamella) (back : ℕ) → Crossed s line r → s .from ≤ line
-    → comes r (linesFrom line (l ∷ ls)) back ≡ comes s (line ∷ linesFrom line (l ∷ ls)) back
+cross-keeps : (q : ℕ) (s r : Place) (line : ℕ) (l : Lamella) (ls : List Lamella) (back : ℕ) → Crossed q s line r → s .from ≤ line
+    → comes q r (linesFrom line (l ∷ ls)) back ≡ comes q s (line ∷ linesFrom line (l ∷ ls)) back
 unfolding charred
-cross-keeps s r line l ls back c h =
-    let fast = fastPart (stretchTo s line) in
-    let settled = settledPart (stretchTo s line) in
+cross-keeps q s r line l ls back c h =
+    let left = s .left - q * fastPart (stretchTo s line) - 2 * q * settledPart (stretchTo s line) in
     let lines = linesFrom line (l ∷ ls) in
     rw (to-line (s .from) (s .end) line lines back h, c .from, c .end, c .left, c .gained)
-    (simp one-mul (rw (same-end line l ls back (s .left - fast - 2 * settled)) (add-assoc (s .gained) (gain (stretchTo s line) (s .left))
-    (charred (stretches line (line + fastRun) lines back) (s .left - fast - 2 * settled) 1))))
+    (rw (same-end line l ls back left q) (add-assoc (s .gained) (gain (stretchTo s line) (s .left) q)
+    (charred (stretches line (line + fastRun) lines back) left q)))
 
 -- the last stretch
-cross-last : (s r : Place) (back : ℕ) → Crossed s back r → r .gained ≡ comes s [] back
+cross-last : (q : ℕ) (s r : Place) (back : ℕ) → Crossed q s back r → r .gained ≡ comes q s [] back
 unfolding stretches charred
-cross-last s r back c = rw (c .gained) (simp one-mul (ap (λ (x : ℕ). s .gained + x) (zero-last (gain (stretchTo s back) (s .left)))))
+cross-last q s r back c = rw (c .gained) (ap (λ (x : ℕ). s .gained + x) (zero-last (gain (stretchTo s back) (s .left) q)))
   where
     zero-last : (x : ℕ) → x ≡ x + 0
     zero-last x = omega arith
 
 -- a line that is passed
-pass-keeps : (falls : Bool) (s r : Place) (top line : ℕ) (l m : Lamella) (ls : List Lamella) (back : ℕ) → line ≡ top + tenth * l .thickness
-    → Passed falls s line r → comes r (linesIf falls line (m ∷ ls)) back ≡ comes s (linesIf falls top (l ∷ m ∷ ls)) back
+pass-keeps :
+    (q : ℕ) (falls : Bool) (s r : Place) (top line : ℕ) (l m : Lamella) (ls : List Lamella) (back : ℕ) → line ≡ top + tenth * l .thickness
+    → Passed q falls s line r → comes q r (linesIf falls line (m ∷ ls)) back ≡ comes q s (linesIf falls top (l ∷ m ∷ ls)) back
 unfolding linesFrom
-pass-keeps false s r top line l m ls back e h = rw (h .kept refl)
-pass-keeps true s r top line l m ls back e h = rw (← e) (go (leb (s .from) line) refl)
+pass-keeps q false s r top line l m ls back e h = rw (h .kept refl)
+pass-keeps q true s r top line l m ls back e h = rw (← e) (go (leb (s .from) line) refl)
   where
     go : (b : Bool) → leb (s .from) line ≡ b
-        → comes r (linesFrom line (m ∷ ls)) back ≡ comes s (line ∷ linesFrom line (m ∷ ls)) back
-    go true t = cross-keeps s r line m ls back (h .crossed t) (leb-true (s .from) line t)
+        → comes q r (linesFrom line (m ∷ ls)) back ≡ comes q s (line ∷ linesFrom line (m ∷ ls)) back
+    go true t = cross-keeps q s r line m ls back (h .crossed t) (leb-true (s .from) line t)
     go false t = rw (h .kept t, past-line (s .from) (s .end) line (linesFrom line (m ∷ ls)) back (leb-false (s .from) line t))
 
 -- The walk over a panel's arrays
@@ -141,15 +141,15 @@ bond-lines true ls = refl
 bond-lines false ls = refl
 
 -- after i lines, with the last of them at `line`
-pub record Walked (p : Panel) (x i line : ℕ) (s : Place) : Type 0 where
+pub record Walked (p : Panel) (x q i line : ℕ) (s : Place) : Type 0 where
   pub ends : line ≡ tenth * thickness (lamellaeOf (p .directions) (p .thicknesses) i)
   pub bounds : PlaceBounds s
-  pub same : comes s (linesIf (eqb (p .bond) 1) line (drop i (lamellae p))) (backFace p) ≡ charred (way p) x 1
+  pub same : comes q s (linesIf (eqb (p .bond) 1) line (drop i (lamellae p))) (backFace p) ≡ charred (way p) x q
 
-pub walk-start : (p : Panel) (f : Fire) (x : ℕ) → FireOf p f → FireBounds f → x ≤ 720000000000
-    → Walked p x 0 0 (record { from = f .depth; end = f .end; left = x; gained = 0 })
+pub walk-start : (p : Panel) (f : Fire) (x q : ℕ) → FireOf p f → FireBounds f → x ≤ 43200000000000
+    → Walked p x q 0 0 (record { from = f .depth; end = f .end; left = x; gained = 0 })
 unfolding way bondLines lamellaeOf thickness
-walk-start p f x o b h =
+walk-start p f x q o b h =
     record {
       ends = refl;
       bounds = record { from = omega (arith, b .depth); end = omega (arith, b .end); gained = omega arith };
@@ -159,24 +159,24 @@ walk-start p f x o b h =
     zero-first : (y : ℕ) → 0 + y ≡ y
     zero-first y = omega arith
 
-pub walk-more : (p : Panel) (x i line next : ℕ) (s r : Place) → Walked p x i line s → i + 1 < p .count
-    → next ≡ line + 100000000 * getD (p .thicknesses) i 0 → Passed (eqb (p .bond) 1) s next r → Walked p x (i + 1) next r
-walk-more p x i line next s r w k e h =
+pub walk-more : (p : Panel) (x q i line next : ℕ) (s r : Place) → Walked p x q i line s → i + 1 < p .count
+    → next ≡ line + 100000000 * getD (p .thicknesses) i 0 → Passed q (eqb (p .bond) 1) s next r → Walked p x q (i + 1) next r
+walk-more p x q i line next s r w k e h =
     record {
       ends = next-ends p i (w .ends) e;
       bounds = h .bounds;
       same =
           rw (add-one i)
-          (ap (λ (ls : List Lamella). comes r (linesIf (eqb (p .bond) 1) next ls) (backFace p)) (rest-at p (suc i) (omega arith))
-          ∙ pass-keeps (eqb (p .bond) 1) s r line next (lamellaAt p i) (lamellaAt p (suc i)) (drop (suc (suc i)) (lamellae p)) (backFace p) e h
-          ∙ ap (λ (ls : List Lamella). comes s (linesIf (eqb (p .bond) 1) line ls) (backFace p)) (sym (inner-at p i k))
+          (ap (λ (ls : List Lamella). comes q r (linesIf (eqb (p .bond) 1) next ls) (backFace p)) (rest-at p (suc i) (omega arith))
+          ∙ pass-keeps q (eqb (p .bond) 1) s r line next (lamellaAt p i) (lamellaAt p (suc i)) (drop (suc (suc i)) (lamellae p)) (backFace p) e h
+          ∙ ap (λ (ls : List Lamella). comes q s (linesIf (eqb (p .bond) 1) line ls) (backFace p)) (sym (inner-at p i k))
           ∙ w .same);
     }
 
-pub walk-end : (p : Panel) (x i line back : ℕ) (s r : Place) → Walked p x i line s → i + 1 ≡ p .count → back ≡ backFace p
-    → Crossed s back r → r .gained ≡ charred (way p) x 1
-walk-end p x i line back s r w k e h =
-    cross-last s r back h
-    ∙ ap (comes s []) e
-    ∙ ap (λ (lines : List ℕ). comes s lines (backFace p)) (sym (no-line p i line k))
+pub walk-end : (p : Panel) (x q i line back : ℕ) (s r : Place) → Walked p x q i line s → i + 1 ≡ p .count → back ≡ backFace p
+    → Crossed q s back r → r .gained ≡ charred (way p) x q
+walk-end p x q i line back s r w k e h =
+    cross-last q s r back h
+    ∙ ap (comes q s []) e
+    ∙ ap (λ (lines : List ℕ). comes q s lines (backFace p)) (sym (no-line p i line k))
     ∙ w .same

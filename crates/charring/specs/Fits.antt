@@ -1,5 +1,5 @@
--- The limits of lines 3, 4, 8, 9, 10 and 11 within which the depth at a whole minute fits 64 bits, and what the functions
--- that work it out hand to each other.
+-- The limits of lines 3, 4, 8, 9, 10 and 11 within which the depth at n/q minutes, times q, fits 64 bits for up to sixty parts to the
+-- minute, and what the functions that work it out hand to each other.
 use Prim.Native.Nat.{ℕ, _+_, _-_, _*_, _/_, _<_, _≤_, min}
 use mathlib.Core.List.{List}
 use lib.ListN.{getD}
@@ -11,6 +11,7 @@ use lib.Dec.{leb}
 use Rattle.panel.specs.declared.Panel.{Panel}
 use Rattle.panel.specs.Lamellae.{lamellae, thickness}
 use Rattle.panel.specs.Timber.{rateOf}
+use Rattle.limits.specs.Causes.{lastMinute}
 use Rattle.charring.specs.declared.Fire.{Fire}
 use Rattle.charring.specs.declared.Place.{Place}
 use Rattle.charring.specs.Fires.{tenth, fastRun, startOf, failureOf, k2, plainRate, slowRate, backFace, depthAtFailure, firstEnd}
@@ -26,6 +27,10 @@ pub record FireFits (p : Panel) : Type 0 where
   pub least : 1 ≤ p .count
   pub count : p .count ≤ 9
   pub thick : thickness (lamellae p) ≤ 4000
+
+-- n/q minutes of which a depth is worked out: at most 360, in whole parts of which q, at most sixty, make a minute
+abbrev pub TimeFits : ℕ → ℕ → Type 0
+TimeFits n q = (0 < q) × ((q ≤ 60) × (n ≤ lastMinute * q))
 
 -- what is the same at every minute
 pub record FireOf (p : Panel) (f : Fire) : Type 0 where
@@ -52,36 +57,44 @@ pub record FireBounds (f : Fire) : Type 0 where
 abbrev pub stretchTo : Place → ℕ → Stretch
 stretchTo s to = record { from = s .from; end = s .end; to = to }
 
--- what a stretch adds at most, half picometres
-abbrev pub gain : Stretch → ℕ → ℕ
-gain s x = 2 * min x (fastPart s) + min (x - fastPart s) (2 * settledPart s)
+-- what a stretch adds at most, half picometres, times q
+abbrev pub gain : Stretch → ℕ → ℕ → ℕ
+gain s x q = 2 * min x (q * fastPart s) + min (x - q * fastPart s) (2 * q * settledPart s)
 
 pub record PlaceBounds (s : Place) : Type 0 where
   pub from : s .from ≤ 400000000000
   pub end : s .end ≤ 425000000000
-  pub gained : s .gained + 2 * s .left ≤ 1440000000000
+  pub gained : s .gained + 2 * s .left ≤ 86400000000000
 
 -- the place at the end of a stretch, where a new run starts
-pub record Crossed (s : Place) (to : ℕ) (r : Place) : Type 0 where
+pub record Crossed (q : ℕ) (s : Place) (to : ℕ) (r : Place) : Type 0 where
   pub from : r .from ≡ to
   pub end : r .end ≡ to + fastRun
-  pub left : r .left ≡ s .left - fastPart (stretchTo s to) - 2 * settledPart (stretchTo s to)
-  pub gained : r .gained ≡ s .gained + gain (stretchTo s to) (s .left)
+  pub left : r .left ≡ s .left - q * fastPart (stretchTo s to) - 2 * q * settledPart (stretchTo s to)
+  pub gained : r .gained ≡ s .gained + gain (stretchTo s to) (s .left) q
   pub bounds : PlaceBounds r
 
 -- the place after a line: a stretch is crossed where the bond falls and the line was not passed before t_f
-pub record Passed (falls : Bool) (s : Place) (line : ℕ) (r : Place) : Type 0 where
-  pub crossed : (falls && leb (s .from) line) ≡ true → Crossed s line r
+pub record Passed (q : ℕ) (falls : Bool) (s : Place) (line : ℕ) (r : Place) : Type 0 where
+  pub crossed : (falls && leb (s .from) line) ≡ true → Crossed q s line r
   pub kept : (falls && leb (s .from) line) ≡ false → r ≡ s
   pub bounds : PlaceBounds r
 
--- the char depth at a time, by what is the same at every minute
-pub record CharOf (p : Panel) (f : Fire) (time r : ℕ) : Type 0 where
+-- the char depth at n/q minutes, half picometres, times q, by what is the same at every minute
+pub record CharOf (p : Panel) (f : Fire) (n q r : ℕ) : Type 0 where
   pub depth :
       r ≡ min
-      (2 * f .slow * min (time - f .start) (f .failure - f .start) + charred (way p) (2 * f .plain * (time - f .failure)) 1)
-      (2 * f .back)
-  pub most : r ≤ 800000000000
+      (2 * f .slow * min (1000 * n - q * f .start) (q * (f .failure - f .start))
+      + charred (way p) (2 * f .plain * (1000 * n - q * f .failure)) q)
+      (2 * q * f .back)
+  pub most : r ≤ 48000000000000
+
+-- the effective depth at n/q minutes, half picometres, times q and `full`, by the char depth and the time in thousandths of a minute, both
+-- times q
+pub record EffectiveOf (char time q full back r : ℕ) : Type 0 where
+  pub depth : r ≡ min (full * char + 140 * tenth * min time (q * full)) (2 * q * full * back)
+  pub within : r ≤ 2 * q * full * back
+  pub most : r ≤ 6000000000000000000
 
 -- where a run that starts at a line ends: the next line is where lamella `at`, if it is not the last, ends
 pub record LineEnd (line : ℕ) (thicknesses : List ℕ) (at count r : ℕ) : Type 0 where

@@ -59,7 +59,7 @@ pub fn effective_depth(p: Panel, minute: u16) -> DepthAnswer
         return DepthAnswer::Refused(n);
     }
     let exposed = shown(p);
-    DepthAnswer::Depth(tenths_in(exposed, fire_of(exposed), minute as u64))
+    DepthAnswer::Depth(tenths_in(exposed, fire_of(exposed), minute as u64, 1))
 }
 
 // The char depths of minutes 0 to 360 in micrometres, rounded up, into the lent space.

@@ -50,8 +50,8 @@ pub struct Fire {
     pub full: u64,
 }
 
-// A place on the way through the panel: the depth, where its run ends, what is left of the time in twice what β alone adds, and
-// what has charred on the way, in half picometres.
+// A place on the way through the panel: the depth and where its run ends, in picometres; and times q what is left of the time in twice what
+// β alone adds, and what has charred on the way, in half picometres.
 pub(crate) struct Place {
     pub from: u64,
     pub end: u64,

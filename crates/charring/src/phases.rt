@@ -78,7 +78,7 @@ pub(crate) fn phase_at(p: Panel, minute: u64) -> Phase
 {
     let f = fire_of(p);
     let time = 1000 * minute;
-    if 2 * f.back <= char_of(p, f, time) {
+    if 2 * f.back <= char_of(p, f, minute, 1) {
         return Phase::Settled;
     }
     if time < f.start {

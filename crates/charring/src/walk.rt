@@ -11,6 +11,14 @@ ghost use Prim.Native.Nat.{_+_, _-_, _*_, _≤_, min, max};
 ghost use Rattle.charring.specs.Stages.{way, charred};
 ghost use Rattle.charring.specs.Fits.{FireFits, FireOf, FireBounds, PlaceBounds, Crossed, Passed};
 
+// A time or a length times q.
+pub(crate) fn scaled(q: u64, x: u64) -> u64
+    requires { ⌜ (q ≤ 60) × (x ≤ 400000000000) ⌝ }
+    ensures { λ r. ⌜ (r ≡ q * x) × (r ≤ 60 * x) ⌝ }
+{
+    q * x
+}
+
 pub(crate) fn fast_part(from: u64, end: u64, to: u64) -> u64
     ensures { λ r. ⌜ (r ≡ min end to - from) × (r ≤ to) ⌝ }
 {
@@ -24,20 +32,20 @@ pub(crate) fn settled_part(from: u64, end: u64, to: u64) -> u64
 }
 
 fn gain_on(left: u64, fast: u64, settled: u64) -> u64
-    requires { ⌜ (left ≤ 720000000000) × (settled ≤ 400000000000) ⌝ }
+    requires { ⌜ (left ≤ 43200000000000) × (settled ≤ 24000000000000) ⌝ }
     ensures { λ r. ⌜ (r ≡ 2 * min left fast + min (left - fast) (2 * settled)) × (r + 2 * (left - fast - 2 * settled) ≤ 2 * left) ⌝ }
 {
     2 * lesser(left, fast) + lesser(less(left, fast), 2 * settled)
 }
 
 // To the end of a stretch.
-fn cross(s: Place, to: u64) -> Place
+fn cross(s: Place, to: u64, q: u64) -> Place
     requires { ⌜ PlaceBounds s ⌝ }
-    requires { ⌜ to ≤ 400000000000 ⌝ }
-    ensures { λ r. ⌜ Crossed s to r ⌝ }
+    requires { ⌜ (to ≤ 400000000000) × (q ≤ 60) ⌝ }
+    ensures { λ r. ⌜ Crossed q s to r ⌝ }
 {
-    let fast = fast_part(s.from, s.end, to);
-    let settled = settled_part(s.from, s.end, to);
+    let fast = scaled(q, fast_part(s.from, s.end, to));
+    let settled = scaled(q, settled_part(s.from, s.end, to));
     Place {
         from: to,
         end: to + 25000000000,
@@ -47,24 +55,24 @@ fn cross(s: Place, to: u64) -> Place
 }
 
 // Past a bond line.
-fn pass(s: Place, line: u64, falls: bool) -> Place
+fn pass(s: Place, line: u64, q: u64, falls: bool) -> Place
     requires { ⌜ PlaceBounds s ⌝ }
-    requires { ⌜ line ≤ 400000000000 ⌝ }
-    ensures { λ r. ⌜ Passed falls s line r ⌝ }
+    requires { ⌜ (line ≤ 400000000000) × (q ≤ 60) ⌝ }
+    ensures { λ r. ⌜ Passed q falls s line r ⌝ }
 {
     if falls & (s.from <= line) {
-        cross(s, line)
+        cross(s, line, q)
     } else {
         s
     }
 }
 
 // From t_f on, by as much time as x says. No open call: the limits must hold.
-pub(crate) fn walk(p: Panel, f: Fire, x: u64) -> u64
+pub(crate) fn walk(p: Panel, f: Fire, x: u64, q: u64) -> u64
     requires { ⌜ FireFits p ⌝ }
     requires { ⌜ FireOf p f × FireBounds f ⌝ }
-    requires { ⌜ x ≤ 720000000000 ⌝ }
-    ensures { λ r. ⌜ (r ≡ charred (way p) x 1) × (r ≤ 1440000000000) ⌝ }
+    requires { ⌜ (x ≤ 43200000000000) × (q ≤ 60) ⌝ }
+    ensures { λ r. ⌜ (r ≡ charred (way p) x q) × (r ≤ 86400000000000) ⌝ }
 {
     let thicknesses = p.thicknesses;
     let mut s = Place {
@@ -77,9 +85,9 @@ pub(crate) fn walk(p: Panel, f: Fire, x: u64) -> u64
     let mut i = 0;
     while i + 1 < p.count {
         line += 100000000 * widen(thicknesses[i]);
-        s = pass(s, line, p.bond == 1);
+        s = pass(s, line, q, p.bond == 1);
         i += 1;
     }
-    let r = cross(s, f.back);
+    let r = cross(s, f.back, q);
     r.gained
 }

@@ -13,10 +13,10 @@ use Rattle.record.specs.Answers.{reading, blank, decode}
 use Rattle.layers.specs.Layers.{printedEi}
 use Rattle.grades.specs.Grades.{gradeOf, reiOf}
 use Rattle.charring.specs.Depths.{micrometresAt, tenthsAt}
-use Rattle.card_text.specs.Text.{textLine}
-use Rattle.card_text.proofs.Lengths.{length-line}
-use Rattle.load.specs.LoadMinute.{printedLoad}
-use Rattle.fire_card.specs.Card.{cardHead, charHead, loadHead, eiHead, reiHead, charLine, charLines, ratingLines, cardText}
+use Rattle.card_text.specs.Text.{textLine, timeLine}
+use Rattle.card_text.proofs.Lengths.{length-line, length-time}
+use Rattle.load.specs.LoadMinute.{printedLoad, printedLoadSeconds, minutesIn, secondsOver}
+use Rattle.fire_card.specs.Card.{cardHead, charHead, loadHead, timeHead, eiHead, reiHead, charLine, charLines, loadLines, ratingLines, cardText, cardMost}
 
 -- What stands in a record
 
@@ -38,16 +38,19 @@ both-most : (xs ys : List ℕ) (m n : ℕ) → length xs ≤ m → length ys ≤
 both-most xs ys m n h k = simp length-append (omega arith)
 
 -- the longest card
-pub card-length : (p : Panel) → length (cardText p) ≤ 232
+pub card-length : (p : Panel) → length (cardText p) ≤ cardMost
 unfolding cardText
 card-length p =
-    both-most (textLine cardHead (p .version ∷ []) ++ charLines q) (ratingLines load ei) 168 64
+    both-most (textLine cardHead (p .version ∷ []) ++ charLines q) (ratingLines load seconds ei) 168 81
     (both-most (textLine cardHead (p .version ∷ [])) (charLines q) 16 152 (length-line cardHead (p .version ∷ []))
     (both-most (charLine q 30 ++ charLine q 60 ++ charLine q 90) (charLine q 120) 114 38
     (both-most (charLine q 30 ++ charLine q 60) (charLine q 90) 76 38
     (both-most (charLine q 30) (charLine q 60) 38 38 (char 30) (char 60)) (char 90)) (char 120)))
-    (both-most (loadLine ++ eiLine) reiLine 49 15
-    (both-most loadLine eiLine 24 25 (length-line loadHead (load ∷ gradeOf load .minutes ∷ [])) (length-line eiHead (ei ∷ gradeOf ei .minutes ∷ [])))
+    (both-most (loadLines load seconds ++ eiLine) reiLine 66 15
+    (both-most (loadLines load seconds) eiLine 41 25
+    (both-most loadLine timeText 24 17 (length-line loadHead (load ∷ gradeOf load .minutes ∷ []))
+    (length-time timeHead (minutesIn seconds) (secondsOver seconds)))
+    (length-line eiHead (ei ∷ gradeOf ei .minutes ∷ [])))
     (length-line reiHead (reiOf load ei .minutes ∷ [])))
   where
     q : Panel
@@ -55,6 +58,9 @@ card-length p =
 
     load : ℕ
     load = printedLoad p
+
+    seconds : ℕ
+    seconds = printedLoadSeconds p
 
     ei : ℕ
     ei = printedEi p
@@ -64,6 +70,9 @@ card-length p =
 
     loadLine : List ℕ
     loadLine = textLine loadHead (load ∷ gradeOf load .minutes ∷ [])
+
+    timeText : List ℕ
+    timeText = timeLine timeHead (minutesIn seconds) (secondsOver seconds)
 
     eiLine : List ℕ
     eiLine = textLine eiHead (ei ∷ gradeOf ei .minutes ∷ [])

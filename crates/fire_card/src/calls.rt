@@ -1,4 +1,5 @@
 // The open calls of this crate: they ask nothing of their caller.
+use crate::CARD_MOST;
 use crate::CardAnswer;
 use crate::lines::put_card;
 use card_text::text::put_bytes;
@@ -29,7 +30,7 @@ pub fn card(bytes: &[u8], out: &mut [u8]) -> CardAnswer
     if reading.refusal != 0 {
         return CardAnswer::Refused(reading.refusal);
     }
-    let mut space = [0u8; 232];
+    let mut space = [0u8; CARD_MOST];
     let n = put_card(&mut space, reading.panel);
     deliver(&space[..n], out)
 }

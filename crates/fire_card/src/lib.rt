@@ -2,6 +2,9 @@
 pub mod calls;
 mod lines;
 
+// No card has more bytes.
+pub const CARD_MOST: usize = 249;
+
 // The number of bytes written, or the refusal's number.
 pub enum CardAnswer {
     Written(usize),

@@ -1,4 +1,4 @@
--- The load minute lies less than a minute below the failure time: unless it is 360, some time strictly before the following minute
+-- The whole part of the failure time lies less than one part below it: unless it is 360 minutes, some time strictly before the following part
 -- fails. The argument holds for any test of depths, for any depth at each time that does not fall and is reached a little earlier
 -- too, and for any part of a minute.
 use Prim.Native.Nat.{ℕ, suc, _+_, _*_, _≤_, _<_}
@@ -13,7 +13,7 @@ use Rattle.section.specs.Tests.{depthPasses}
 use Rattle.charring.specs.Depths.{tenthsAt}
 use Rattle.charring.proofs.DepthLaws.{effectiveSpeed, tenths-later}
 use Rattle.charring.proofs.JustBefore.{just-before}
-use Rattle.load.specs.Failure.{EveryTenthPasses, TimePasses, AboveFailure, IsWholePart, IsLoadMinute}
+use Rattle.load.specs.Failure.{EveryTenthPasses, TimePasses, AboveFailure, IsWholePart}
 use Rattle.load.specs.LoadMinute.{everyFrom}
 use Rattle.load.proofs.LoadMinutes.{PassesBy, every-tenth}
 
@@ -41,6 +41,7 @@ module _ (passes : ℕ → Bool) (tenths : ℕ → ℕ → ℕ)
           }
 
 -- of every panel
-pub load-next-above : (p : Panel) (m : ℕ) → IsLoadMinute p m → m < 360 → AboveFailure (TimePasses p) (suc m) 1
-load-next-above p m h l =
-    next-above (depthPasses p) (tenthsAt p) (λ n q r s. tenths-later p n q r s) (effectiveSpeed p) (just-before p) 1 m (omega arith) h l
+pub panel-next-above :
+    (p : Panel) (unit m : ℕ) → 0 < unit → IsWholePart (TimePasses p) unit m → m < 360 * unit → AboveFailure (TimePasses p) (suc m) unit
+panel-next-above p =
+    next-above (depthPasses p) (tenthsAt p) (λ n q r s. tenths-later p n q r s) (effectiveSpeed p) (just-before p)

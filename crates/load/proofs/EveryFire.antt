@@ -1,4 +1,4 @@
--- The printed load minute is the whole part of passing in every fire, and lies less than a minute below the failure time. The argument about
+-- What is printed, R and RS, is the whole part of passing in every fire, and lies less than one part below the failure time. The argument about
 -- two fires holds for any two notions of passing and any part of a minute.
 use Prim.Native.Nat.{ℕ, zero, suc, _*_, _≤_, _<_, min}
 use mathlib.Core.Path.{_≡_, subst, _∙_}
@@ -7,12 +7,13 @@ use native.Mathlib.Decide.{decLe}
 use Rattle.panel.specs.declared.Panel.{Panel}
 use Rattle.panel.specs.Faces.{turned, firesOn, InEvery, leastOf}
 use Rattle.limits.specs.Refusals.{panelRefusal}
+use Rattle.limits.proofs.Accepted.{accepted-passes}
 use Rattle.limits.proofs.Turned.{refusal-turned}
 use Rattle.load.specs.Failure.{TimePasses, EveryFirePasses, AboveFailure, IsWholePart}
-use Rattle.load.specs.LoadMinute.{loadMinute, printedLoad}
-use Rattle.load.proofs.LoadMinutes.{load-most, accepted-load-minute}
-use Rattle.load.proofs.WholeParts.{earlier-not-above}
-use Rattle.load.proofs.Closeness.{load-next-above}
+use Rattle.load.specs.LoadMinute.{timeTest, wholePart, loadMinute, printedLoad, loadSeconds, printedLoadSeconds, minutesIn}
+use Rattle.load.proofs.LoadMinutes.{whole-most, whole-part-is}
+use Rattle.load.proofs.WholeParts.{earlier-not-above, whole-unique, minutes-of-seconds}
+use Rattle.load.proofs.Closeness.{panel-next-above}
 
 -- a whole part, and the next part is above the failure time
 pub record CloseBelow (Passes : ℕ → ℕ → Type 0) (unit m : ℕ) : Type 0 where
@@ -62,28 +63,58 @@ module _ (First Second : ℕ → ℕ → Type 0) where
 
 -- The fires of a panel
 
+module _ (unit : ℕ) (positive : 0 < unit) where
+  -- the whole part of the failure time in a fire, by its definition
+  abbrev part : Panel → ℕ
+  part fire = wholePart (timeTest fire) unit
+
+  part-close : (p : Panel) → panelRefusal p ≡ 0 → CloseBelow (TimePasses p) unit (part p)
+  part-close p e =
+      let whole = whole-part-is p unit positive (accepted-passes p e) in
+      record { whole = whole; next = panel-next-above p unit (part p) positive whole }
+
+  close-on :
+      (face : ℕ) (p : Panel) → panelRefusal p ≡ 0
+      → CloseBelow (λ n q. InEvery (λ fire. TimePasses fire n q) (firesOn face p)) unit (leastOf part (firesOn face p))
+  close-on zero p e = part-close p e
+  close-on (suc zero) p e = part-close (turned p) (refusal-turned p ∙ e)
+  close-on (suc (suc face)) p e =
+      lesser-close (TimePasses p) (TimePasses (turned p)) unit (part p) (part (turned p)) (part-close p e)
+      (part-close (turned p) (refusal-turned p ∙ e))
+
+  least-most : (face : ℕ) (p : Panel) → leastOf part (firesOn face p) ≤ 360 * unit
+  least-most zero p = whole-most (timeTest p) unit
+  least-most (suc zero) p = whole-most (timeTest (turned p)) unit
+  least-most (suc (suc face)) p = omega (arith, whole-most (timeTest p) unit)
+
+-- the load minute of an accepted panel, and the printed one
 pub load-close : (p : Panel) → panelRefusal p ≡ 0 → CloseBelow (TimePasses p) 1 (loadMinute p)
-load-close p e =
-    let whole = accepted-load-minute p e in
-    record { whole = whole; next = load-next-above p (loadMinute p) whole }
+unfolding loadMinute
+load-close = part-close 1 (omega arith)
 
-close-on :
-    (face : ℕ) (p : Panel) → panelRefusal p ≡ 0
-    → CloseBelow (λ n q. InEvery (λ fire. TimePasses fire n q) (firesOn face p)) 1 (leastOf loadMinute (firesOn face p))
-close-on zero p e = load-close p e
-close-on (suc zero) p e = load-close (turned p) (refusal-turned p ∙ e)
-close-on (suc (suc face)) p e =
-    lesser-close (TimePasses p) (TimePasses (turned p)) 1 (loadMinute p) (loadMinute (turned p)) (load-close p e)
-    (load-close (turned p) (refusal-turned p ∙ e))
-
--- the printed load minute of an accepted panel
 pub printed-close : (p : Panel) → panelRefusal p ≡ 0 → CloseBelow (EveryFirePasses p) 1 (printedLoad p)
-printed-close p e = close-on (p .face) p e
+unfolding loadMinute
+printed-close p e = close-on 1 (omega arith) (p .face) p e
 
 pub printed-most : (p : Panel) → printedLoad p ≤ 360
-printed-most p = go (p .face)
-  where
-    go : (face : ℕ) → leastOf loadMinute (firesOn face p) ≤ 360
-    go zero = load-most p
-    go (suc zero) = load-most (turned p)
-    go (suc (suc face)) = omega (arith, load-most p)
+unfolding loadMinute
+printed-most p = least-most 1 (omega arith) (p .face) p
+
+-- the same in seconds
+pub seconds-close : (p : Panel) → panelRefusal p ≡ 0 → CloseBelow (TimePasses p) 60 (loadSeconds p)
+unfolding loadSeconds
+seconds-close = part-close 60 (omega arith)
+
+pub printed-seconds-close : (p : Panel) → panelRefusal p ≡ 0 → CloseBelow (EveryFirePasses p) 60 (printedLoadSeconds p)
+unfolding loadSeconds
+printed-seconds-close p e = close-on 60 (omega arith) (p .face) p e
+
+pub printed-seconds-most : (p : Panel) → printedLoadSeconds p ≤ 21600
+unfolding loadSeconds
+printed-seconds-most p = least-most 60 (omega arith) (p .face) p
+
+-- "Its minutes equal the printed R"
+pub minutes-printed : (p : Panel) → panelRefusal p ≡ 0 → minutesIn (printedLoadSeconds p) ≡ printedLoad p
+minutes-printed p e =
+    whole-unique (EveryFirePasses p) 1 (minutesIn (printedLoadSeconds p)) (printedLoad p)
+    (minutes-of-seconds (EveryFirePasses p) (printedLoadSeconds p) (printed-seconds-close p e .whole)) (printed-close p e .whole)

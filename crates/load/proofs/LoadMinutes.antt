@@ -1,5 +1,6 @@
--- R: its test says that every time up to a time passes, what it gives is 01's load minute, and a search may stop at the last time that
--- passes the test. The arguments hold for any test of depths and any depths that do not fall with time.
+-- R, and the same in seconds: the test says that every time up to a time passes, what it gives is the failure time's whole part, and a search
+-- may stop at the last time that passes the test. The arguments hold for any test of depths, any depths that do not fall with time, and any
+-- part of a minute.
 use Prim.Native.Nat.{ℕ, zero, suc, _+_, _*_, _≤_, _<_}
 use mathlib.Core.Path.{_≡_, refl, sym, ap, _∙_}
 use mathlib.Core.Bool.{Bool, true, false, _&&_}
@@ -15,8 +16,8 @@ use Rattle.limits.proofs.Accepted.{accepted-passes}
 use Rattle.charring.specs.Depths.{tenthsAt}
 use Rattle.charring.proofs.DepthBounds.{tenths-zero}
 use Rattle.charring.proofs.DepthLaws.{tenths-later}
-use Rattle.load.specs.Failure.{EveryTenthPasses, TimePasses, PassesUpTo, IsLoadMinute}
-use Rattle.load.specs.LoadMinute.{everyFrom, timeTest, wholePart, loadMinute}
+use Rattle.load.specs.Failure.{EveryTenthPasses, TimePasses, PassesUpTo, IsWholePart, IsLoadMinute, IsLoadSeconds}
+use Rattle.load.specs.LoadMinute.{everyFrom, timeTest, wholePart, loadMinute, loadSeconds}
 
 -- Depths
 
@@ -94,27 +95,28 @@ pub whole-most : (test : ℕ → ℕ → Bool) (unit : ℕ) → wholePart test u
 unfolding wholePart
 whole-most test unit = largest-within (λ (m : ℕ). test m unit) (360 * unit)
 
--- R is at most 360, and 01's load minute
-pub load-most : (p : Panel) → loadMinute p ≤ 360
-unfolding loadMinute
-load-most p = whole-most (timeTest p) 1
-
 -- of every panel of which depth 0 passes
-pub load-minute-is : (p : Panel) → depthPasses p 0 ≡ true → IsLoadMinute p (loadMinute p)
-unfolding loadMinute wholePart
-load-minute-is p e =
+pub whole-part-is : (p : Panel) (unit : ℕ) → 0 < unit → depthPasses p 0 ≡ true → IsWholePart (TimePasses p) unit (wholePart (timeTest p) unit)
+unfolding wholePart
+whole-part-is p unit h e =
     record {
-      most = load-most p;
-      notAbove = test-says p (loadMinute p) 1 (omega arith) .0 (largest-keeps (λ (m : ℕ). timeTest p m 1) 360 (test-zero p 1 (omega arith) e));
-      greatest = λ k most all. largest-greatest (λ (m : ℕ). timeTest p m 1) 360 k most (test-says p k 1 (omega arith) .1 all);
+      most = whole-most (timeTest p) unit;
+      notAbove = test-says p (wholePart (timeTest p) unit) unit h .0
+          (largest-keeps (λ (m : ℕ). timeTest p m unit) (360 * unit) (test-zero p unit h e));
+      greatest = λ k most all. largest-greatest (λ (m : ℕ). timeTest p m unit) (360 * unit) k most (test-says p k unit h .1 all);
     }
 
--- of every accepted one
-pub accepted-load-minute : (p : Panel) → panelRefusal p ≡ 0 → IsLoadMinute p (loadMinute p)
-accepted-load-minute p e = load-minute-is p (accepted-passes p e)
+-- what a search finds: a time that passes, and the next does not
+pub whole-found :
+    (p : Panel) (unit : ℕ) → 0 < unit → (v : ℕ) → v ≤ 360 * unit → timeTest p v unit ≡ true
+    → (v < 360 * unit → timeTest p (suc v) unit ≡ false) → wholePart (timeTest p) unit ≡ v
+whole-found p unit h = whole-last (timeTest p) unit (λ k m. test-earlier p unit k m h)
 
--- what a search finds: a minute that passes, and the next does not
-pub load-last :
-    (p : Panel) (v : ℕ) → v ≤ 360 → timeTest p v 1 ≡ true → (v < 360 → timeTest p (suc v) 1 ≡ false) → loadMinute p ≡ v
+-- R and RS of an accepted panel are what 01 and 02 call so
+pub accepted-load-minute : (p : Panel) → panelRefusal p ≡ 0 → IsLoadMinute p (loadMinute p)
 unfolding loadMinute
-load-last p = whole-last (timeTest p) 1 (λ k m. test-earlier p 1 k m (omega arith))
+accepted-load-minute p e = whole-part-is p 1 (omega arith) (accepted-passes p e)
+
+pub accepted-load-seconds : (p : Panel) → panelRefusal p ≡ 0 → IsLoadSeconds p (loadSeconds p)
+unfolding loadSeconds
+accepted-load-seconds p e = whole-part-is p 60 (omega arith) (accepted-passes p e)

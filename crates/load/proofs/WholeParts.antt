@@ -6,6 +6,7 @@ use mathlib.Core.Logic.{_↔_}
 use native.Mathlib.Omega.{arith}
 use native.Mathlib.Nat.{le-antisymm, le-trans, mul-le-mul-right, le-of-mul-le-mul-left, lt-of-not-le}
 use Rattle.load.specs.Failure.{PassesUpTo, NotAboveFailure, AboveFailure, IsFailureTime, IsWholePart}
+use Rattle.load.specs.LoadMinute.{minutesIn}
 
 module _ (Passes : ℕ → ℕ → Type 0) (unit : ℕ) where
   -- an earlier time is not above the failure time either
@@ -19,6 +20,20 @@ module _ (Passes : ℕ → ℕ → Type 0) (unit : ℕ) where
   whole-unique m k h l = le-antisymm (l .greatest m (h .most) (h .notAbove)) (h .greatest k (l .most) (l .notAbove))
 
 module _ (Passes : ℕ → ℕ → Type 0) where
+  -- the whole minutes are those of the whole seconds
+  pub minutes-of-seconds : (seconds : ℕ) → IsWholePart Passes 60 seconds → IsWholePart Passes 1 (minutesIn seconds)
+  minutes-of-seconds seconds h =
+      record {
+        most = let most = h .most in omega arith;
+        notAbove = λ r s pos up. h .notAbove r s pos (later (minutesIn seconds) r s (omega arith) up);
+        greatest = λ k most all.
+            let l = h .greatest (60 * k) (omega arith) (λ r s pos up. all r s pos (let z : r * 1 ≤ k * s = omega arith in z)) in
+            omega arith;
+      }
+    where
+      later : (m r s : ℕ) → 60 * m ≤ seconds → r * 1 ≤ m * s → r * 60 ≤ seconds * s
+      later m r s h up = omega (arith, mul-le-mul-right s h)
+
   -- no time is both above the failure time and not
   pub not-both-sides : (n q : ℕ) → NotAboveFailure Passes n q → AboveFailure Passes n q → ⊥
   not-both-sides n q all a = a .fails (all (a .over) (a .under) (a .whole) (let l = a .earlier in omega arith))

@@ -9,11 +9,17 @@ use Rattle.load.specs.declared.LoadAnswer.{LoadAnswer}
 use Rattle.load.specs.declared.LoadAnswer.the-variants.{Minute, Refused}
 use Rattle.load.specs.declared.ReserveAnswer.{ReserveAnswer}
 use Rattle.load.specs.declared.ReserveAnswer.the-variants.{By, Refused as RefusedReserve}
-use Rattle.load.specs.LoadMinute.{printedLoad}
+use Rattle.load.specs.declared.LoadTimeAnswer.{LoadTimeAnswer}
+use Rattle.load.specs.declared.LoadTimeAnswer.the-variants.{MinutesAndSeconds, Refused as RefusedTime}
+use Rattle.load.specs.LoadMinute.{printedLoad, printedLoadSeconds, minutesIn, secondsOver}
 
 -- the load minute
 unfoldable pub loadAnswer : Panel → LoadAnswer
 loadAnswer p = answer (panelRefusal p) Refused (Minute (printedLoad p))
+
+-- document 02, 5/14: "a second answer in that form, from 0:00 to 360:00"; minutes and seconds
+unfoldable pub loadTimeAnswer : Panel → LoadTimeAnswer
+loadTimeAnswer p = answer (panelRefusal p) RefusedTime (MinutesAndSeconds (minutesIn (printedLoadSeconds p)) (secondsOver (printedLoadSeconds p)))
 
 -- "The reserve against a wanted minute is R minus it, negative where the panel falls short."
 abbrev pub reserveOf : ℕ → ℕ → ℤ

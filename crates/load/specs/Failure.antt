@@ -1,5 +1,5 @@
--- Document 01, "Remaining section": passing times, the failure time, and the load minute. A time is n/q minutes, q not 0, and
--- two times are compared by multiplying out.
+-- Document 01, "Remaining section": passing times, the failure time, and the load minute; document 02, 5/14: the same in seconds. A
+-- time is n/q minutes, q not 0, and two times are compared by multiplying out.
 use Prim.Native.Nat.{ℕ, _*_, _≤_, _<_}
 use mathlib.Core.Path.{_≡_}
 use mathlib.Core.Bool.{Bool, true}
@@ -54,3 +54,10 @@ pub record IsWholePart (Passes : ℕ → ℕ → Type 0) (unit m : ℕ) : Type 0
 -- 01's load minute, R, of the fire on the panel's first face
 abbrev pub IsLoadMinute : Panel → ℕ → Type 0
 IsLoadMinute p m = IsWholePart (TimePasses p) 1 m
+
+abbrev pub secondsPerMinute : ℕ
+secondsPerMinute = 60
+
+-- the same in seconds
+abbrev pub IsLoadSeconds : Panel → ℕ → Type 0
+IsLoadSeconds p s = IsWholePart (TimePasses p) secondsPerMinute s

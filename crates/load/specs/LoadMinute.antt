@@ -1,6 +1,6 @@
--- Document 01, "Remaining section": R, the load minute, as a number. That it is what `IsLoadMinute` means is a theorem (LoadMinutes in
--- proofs/).
-use Prim.Native.Nat.{ℕ, zero, suc, _*_}
+-- Document 01, "Remaining section": R, the load minute, as a number; and document 02, 5/14, the same in seconds, RS. That they are what
+-- `IsLoadMinute` and `IsLoadSeconds` mean is a theorem (LoadMinutes in proofs/).
+use Prim.Native.Nat.{ℕ, zero, suc, _*_, _/_, _%_}
 use mathlib.Core.Bool.{Bool, _&&_}
 use Rattle.numbers.specs.Largest.{largest}
 use Rattle.panel.specs.declared.Panel.{Panel}
@@ -8,6 +8,7 @@ use Rattle.panel.specs.Faces.{fires, leastOf}
 use Rattle.section.specs.Tests.{depthPasses}
 use Rattle.limits.specs.Causes.{lastMinute}
 use Rattle.charring.specs.Depths.{tenthsAt}
+use Rattle.load.specs.Failure.{secondsPerMinute}
 
 -- whether each depth passes, from `first` on and `more` further
 unfoldable pub everyFrom : (ℕ → Bool) → ℕ → ℕ → Bool
@@ -30,3 +31,20 @@ loadMinute p = wholePart (timeTest p) 1
 -- the load minute that is answered and printed: "For 2 the printed minutes are the lesser of the two fires"
 abbrev pub printedLoad : Panel → ℕ
 printedLoad p = leastOf loadMinute (fires p)
+
+-- Seconds
+
+-- the failure time's whole seconds, at most 360 minutes, of the fire on the panel's first face
+unfoldable pub loadSeconds : Panel → ℕ
+loadSeconds p = wholePart (timeTest p) secondsPerMinute
+
+-- "and for face 2 it is the lesser of the two fires"
+abbrev pub printedLoadSeconds : Panel → ℕ
+printedLoadSeconds p = leastOf loadSeconds (fires p)
+
+-- "Test houses write the failure time as minutes and seconds .. seconds always below 60"
+abbrev pub minutesIn : ℕ → ℕ
+minutesIn seconds = seconds / secondsPerMinute
+
+abbrev pub secondsOver : ℕ → ℕ
+secondsOver seconds = seconds % secondsPerMinute

@@ -1,14 +1,18 @@
 // The open calls of this crate: they ask nothing of their caller.
 use crate::LoadAnswer;
+use crate::LoadTimeAnswer;
 use crate::ReserveAnswer;
 use crate::minutes::load_minute_of;
+use crate::minutes::load_seconds_of;
+use crate::minutes::minutes_in;
+use crate::minutes::seconds_over;
 use charring::calls::minute_refusal;
 use limits::calls::panel_refusal;
 use panel::Panel;
 ghost use mathlib.Core.Path.{_≡_};
 ghost use Prim.Native.Nat.{_≤_};
 ghost use Rattle.limits.specs.Causes.{lastMinute};
-ghost use Rattle.load.specs.Answers.{loadAnswer, reserveAnswer, reserveOf};
+ghost use Rattle.load.specs.Answers.{loadAnswer, loadTimeAnswer, reserveAnswer, reserveOf};
 
 // The load minute.
 pub fn load_minute(p: Panel) -> LoadAnswer
@@ -19,6 +23,18 @@ pub fn load_minute(p: Panel) -> LoadAnswer
         return LoadAnswer::Refused(n);
     }
     LoadAnswer::Minute(load_minute_of(p))
+}
+
+// The failure time in whole minutes and seconds.
+pub fn load_time(p: Panel) -> LoadTimeAnswer
+    ensures { λ r. ⌜ r ≡ loadTimeAnswer p ⌝ }
+{
+    let n = panel_refusal(p);
+    if n != 0 {
+        return LoadTimeAnswer::Refused(n);
+    }
+    let seconds = load_seconds_of(p);
+    LoadTimeAnswer::MinutesAndSeconds(minutes_in(seconds), seconds_over(seconds))
 }
 
 fn reserve_of(load: u16, wanted: u16) -> i32

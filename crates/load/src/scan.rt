@@ -1,5 +1,5 @@
-// The load minute: the last depth that passes, found once, and then the last minute whose depth is no deeper. No open calls: the limits
-// must hold, and depth 0 must pass.
+// The failure time's whole seconds: the last depth that passes, found once, and then the last second whose depth is no deeper. No open
+// calls: the limits must hold, and depth 0 must pass.
 use charring::depths::tenths_in;
 use charring::fires::fire_of;
 use limits::LAST_MINUTE;
@@ -16,9 +16,10 @@ ghost use Rattle.section.specs.Tests.{depthPasses, SectionFits};
 ghost use Rattle.section.specs.Carrying.{EachThick};
 ghost use Rattle.charring.specs.Fits.{FireFits};
 ghost use Rattle.load.specs.LastPassing.{lastPassing};
-ghost use Rattle.load.specs.LoadMinute.{loadMinute};
+ghost use Rattle.load.specs.LoadMinute.{loadSeconds};
 
-// The last depth, at most the panel's thickness, to which every depth passes. The arrays are copied once, and the section is carried.
+// The last depth, at most the panel's thickness, to which every depth passes. The arrays are copied once, and the section is carried. Where
+// N stays the section does, and is not tested again.
 fn last_passing(p: Panel) -> u64
     requires { ⌜ SectionFits p × (EachThick (lamellae p) × (depthPasses p 0 ≡ true)) ⌝ }
     ensures { λ r. ⌜ r ≡ lastPassing p ⌝ }
@@ -30,31 +31,33 @@ fn last_passing(p: Panel) -> u64
     let mut c = carried_at_start(&directions, &thicknesses, p.count);
     while c.depth < bottom {
         let next = deeper(c, &directions, &thicknesses, p.count);
-        if !section_passes(factor, p.moment, p.strength, next.section) {
-            return c.depth;
+        if next.section.n != c.section.n {
+            if !section_passes(factor, p.moment, p.strength, next.section) {
+                return c.depth;
+            }
         }
         c = next;
     }
     c.depth
 }
 
-// By halving: every depth to that of `minute` passes; to that of `beyond` not all do, or it is past the last minute.
+// By halving: every depth to that of `second` passes; to that of `beyond` not all do, or it is past the last minute.
 pub(crate) fn scan(p: Panel) -> u16
     requires { ⌜ SectionFits p × (EachThick (lamellae p) × (depthPasses p 0 ≡ true)) ⌝ }
     requires { ⌜ FireFits p ⌝ }
-    ensures { λ r. ⌜ r ≡ loadMinute p ⌝ }
+    ensures { λ r. ⌜ r ≡ loadSeconds p ⌝ }
 {
     let last = last_passing(p);
     let f = fire_of(p);
-    let mut minute: u64 = 0;
-    let mut beyond: u64 = LAST_MINUTE as u64 + 1;
-    while minute + 1 < beyond {
-        let middle = minute + (beyond - minute) / 2;
-        if tenths_in(p, f, middle) as u64 <= last {
-            minute = middle;
+    let mut second: u64 = 0;
+    let mut beyond: u64 = 60 * LAST_MINUTE as u64 + 1;
+    while second + 1 < beyond {
+        let middle = second + (beyond - second) / 2;
+        if tenths_in(p, f, middle, 60) as u64 <= last {
+            second = middle;
         } else {
             beyond = middle;
         }
     }
-    minute as u16
+    second as u16
 }

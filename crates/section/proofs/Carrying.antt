@@ -264,6 +264,17 @@ cutting-fits (drops enough less e c) h some cut = record { within = h; n = omega
 cutting-fits (stays (none below)) h some cut = absurd (let z : ⊥ = omega arith in z)
 cutting-fits (stays (more after forward c)) h some cut = absurd (let z : ⊥ = omega arith in z)
 
+-- where N stays, so does the section: each of the other two cases takes something of it
+pub cutting-n-stays : {end next : ℕ} {xs ys : List Part} → Cutting end next xs ys → sectionOf ys .n ≡ sectionOf xs .n → sectionOf ys ≡ sectionOf xs
+unfolding sectionOf total
+cutting-n-stays (moves enough c) e = absurd (let z : ⊥ = omega arith in z)
+cutting-n-stays (drops enough less e c) f = absurd (let z : ⊥ = omega arith in z)
+cutting-n-stays (stays c) e = refl
+
+pub n-stays : (depth : ℕ) (ls : List Lamella) → EachThick ls
+    → sectionOf (counted (depth + 1) ls) .n ≡ sectionOf (counted depth ls) .n → sectionOf (counted (depth + 1) ls) ≡ sectionOf (counted depth ls)
+n-stays depth ls each = cutting-n-stays (cutting depth 0 ls (omega arith) each)
+
 -- one step from the section at any depth
 pub step-deeper :
     (depth : ℕ) (ls : List Lamella) → EachThick ls

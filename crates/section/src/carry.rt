@@ -30,6 +30,22 @@ fn take_off(s: Section, a: u64, b: u64, lo: u64) -> Section
     }
 }
 
+// The sums without the tenth of mm from a on, with which the first part begins; the counted parts begin after it then.
+fn take_tenth(s: Section, a: u64) -> Section
+    requires { ⌜ a + 1 ≤ 4000 ⌝ }
+    requires { ⌜ (1 ≤ s .n) × ((2 * a + 1 ≤ s .p) × (3 * a * (a + 1) + 1 ≤ s .q)) ⌝ }
+    ensures { λ r. ⌜ r ≡ without s (record { from = a; to = a + 1 }) (a + 1) ⌝ }
+{
+    let n = s.n - 1;
+    Section {
+        n: n,
+        p: s.p - (2 * a + 1),
+        q: s.q - (3 * a * (a + 1) + 1),
+        lo: a + 1,
+        hi: where_none(n, 0, s.hi),
+    }
+}
+
 // The step: it is given the section, where the lamella being cut ends, and where the next along one begins.
 fn step_of(s: Section, end: u64, next: u64) -> Section
     requires { ⌜ StepFits s end ⌝ }
@@ -38,9 +54,8 @@ fn step_of(s: Section, end: u64, next: u64) -> Section
     if !((0 < s.n) & (s.lo < end)) {
         return s;
     }
-    let later = s.lo + 1;
-    if is_enough(later, end) {
-        take_off(s, s.lo, later, later)
+    if is_enough(s.lo + 1, end) {
+        take_tenth(s, s.lo)
     } else {
         take_off(s, s.lo, end, next)
     }

@@ -2,13 +2,13 @@
 use crate::Section;
 use crate::sums::section_at;
 use numbers::words64::greater;
-use numbers::words64::less;
 use panel::Panel;
 use panel::timber::factor_of;
 ghost use mathlib.Core.Path.{_≡_};
 ghost use Prim.Native.Nat.{_-_, _*_, _≤_, max};
 ghost use lib.Dec.{leb};
 ghost use Rattle.section.specs.Tests.{carries, depthPasses, SectionFits, SectionBounds};
+ghost use Rattle.section.specs.NothingCut.{NothingCut};
 
 // 2N times the distance of the outermost fibre from the centroid.
 fn edge_of(n: u64, p: u64, lo: u64, hi: u64) -> u64
@@ -16,9 +16,10 @@ fn edge_of(n: u64, p: u64, lo: u64, hi: u64) -> u64
     requires { ⌜ p ≤ 16000000 ⌝ }
     requires { ⌜ lo ≤ 4000 ⌝ }
     requires { ⌜ hi ≤ 4000 ⌝ }
+    requires { ⌜ (2 * n * lo ≤ p) × (p ≤ 2 * n * hi) ⌝ }
     ensures { λ r. ⌜ (r ≡ max (p - 2 * n * lo) (2 * n * hi - p)) × (r ≤ 32000000) ⌝ }
 {
-    greater(less(p, 2 * n * lo), less(2 * n * hi, p))
+    greater(p - 2 * n * lo, 2 * n * hi - p)
 }
 
 // 12N times the second moment of area about the centroid.
@@ -26,9 +27,10 @@ fn inertia_of(n: u64, p: u64, q: u64) -> u64
     requires { ⌜ n ≤ 4000 ⌝ }
     requires { ⌜ p ≤ 16000000 ⌝ }
     requires { ⌜ q ≤ 64000000000 ⌝ }
+    requires { ⌜ 3 * p * p ≤ 4 * n * q ⌝ }
     ensures { λ r. ⌜ (r ≡ 4 * n * q - 3 * p * p) × (r ≤ 1024000000000000) ⌝ }
 {
-    less(4 * n * q, 3 * p * p)
+    4 * n * q - 3 * p * p
 }
 
 // Whether the strength is not exceeded at the outermost fibre.
@@ -43,12 +45,13 @@ fn is_within(factor: u64, moment: u32, strength: u16, e: u64, w: u64) -> bool
     120000 * (moment as u64) * e <= factor * (strength as u64) * w
 }
 
-// No open call: the factor must be a product's, and the moment, the strength and the sums must keep the limits of lines 5 and 11.
+// No open call: the factor must be a product's, the moment, the strength and the sums must keep the limits of lines 5 and 11, and no
+// difference of the sums may be cut off at 0; of a section at a depth none is.
 pub fn section_passes(factor: u64, moment: u32, strength: u16, s: Section) -> bool
     requires { ⌜ factor ≤ 23 ⌝ }
     requires { ⌜ moment ≤ 1000000 ⌝ }
     requires { ⌜ strength ≤ 400 ⌝ }
-    requires { ⌜ SectionBounds s ⌝ }
+    requires { ⌜ SectionBounds s × NothingCut s ⌝ }
     ensures { λ r. ⌜ r ≡ carries factor moment strength s ⌝ }
 {
     let e = edge_of(s.n, s.p, s.lo, s.hi);

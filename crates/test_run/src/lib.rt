@@ -79,8 +79,17 @@ fn answer_cards(line: &[u8]) {
         cards::answer_card(rest);
     } else if is_word(line, b"refusal") {
         cards::answer_refusal(rest);
-    } else if is_word(line, b"load") {
+    } else {
+        answer_loads(line);
+    }
+}
+
+fn answer_loads(line: &[u8]) {
+    let rest = after_word(line);
+    if is_word(line, b"load") {
         loads::answer_load(rest);
+    } else if is_word(line, b"seconds") {
+        loads::answer_seconds(rest);
     } else if is_word(line, b"reserve") {
         loads::answer_reserve(rest);
     } else {

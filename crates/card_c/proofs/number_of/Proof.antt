@@ -1,4 +1,4 @@
--- `card_c::number_of` meets its contract: at most 232 bytes and a refusal's byte fit 32 bits. Assumes nothing.
+-- `card_c::number_of` meets its contract: the bytes of the longest card and a refusal's byte fit 32 bits. Assumes nothing.
 use Rattle.card_c.proofs.Numbers.{short-bytes, bits-minus, bits-minus-fits}
 use Rattle.card_c.specs.Exported.{exported}
 use borrow.Author.Needs.{needs}

@@ -1,4 +1,4 @@
--- `card_c::yurbantse_card` meets its contract: no card is longer than 232 bytes. Assumes nothing.
+-- `card_c::yurbantse_card` meets its contract: the longest card fits 32 bits. Assumes nothing.
 use Rattle.card_c.proofs.Numbers.{short-text}
 use Rattle.card_c.specs.Exported.{Short, exported}
 use Rattle.fire_card.proofs.Cards.{card-length}

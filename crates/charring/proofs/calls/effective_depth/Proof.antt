@@ -7,6 +7,7 @@ use Rattle.charring.specs.Depths.{tenthsAt}
 use Rattle.panel.specs.declared.Panel.{Panel}
 use borrow.Author.Needs.{needs}
 use mathlib.Core.Path.{ap, _∙_}
+use native.Mathlib.Omega.{arith}
 use Rattle.charring.proofs.calls.effective_depth.Statement.{statement}
 use Rattle.charring.proofs.calls.effective_depth.Tie as tie
 
@@ -18,7 +19,7 @@ tenths-in-requires : tie.Need-tenths-in-requires
 tenths-in-requires c κs =
     let exposed = c .before in
     let h = minute-fits _ _ _ (exposed .before .before .minute-refusal .ensures) (exposed .before .if1 .left) (exposed .shown .ensures) in
-    (h .0, (c .fire-of .ensures, h .1))
+    (h .0, (c .fire-of .ensures, (omega arith, (omega arith, h .1))))
 
 returns-2 : tie.Need-returns-2
 unfolding effectiveAnswer

@@ -10,9 +10,9 @@ returns : tie.Need-returns
 returns c =
     let s = c .before in
     ap (λ (d : ℕ). (d + 1999999) / 2000000)
-    (char-is (s .args .p) (s .args .f) (s .args .minute) (c .char-of .result) (s .pre .1 .0 .0) (c .char-of .ensures))
+    (char-is (s .args .p) (s .args .f) (s .args .minute) 1 (c .char-of .result) (s .pre .1 .0 .0) (c .char-of .ensures))
 
 pub micrometres-in-spec : {M : Type 1} → statement M
 micrometres-in-spec =
     tie.close
-    (tie.spec (λ c. search needs) (λ c κs. search needs) (λ c. search needs) (λ c. search needs) returns)
+    (tie.spec (λ c κs. search needs) (λ c. search needs) (λ c. search needs) returns)

@@ -4,7 +4,7 @@ use Rattle.card_text.proofs.Storing.{put-text, put-count}
 use Rattle.fire_card.proofs.Cards.{read-refusal, read-panel, card-length}
 use Rattle.fire_card.proofs.Texts.{text-refused, text-delivered}
 use Rattle.fire_card.specs.Answers.{textAnswer, textAfter}
-use Rattle.fire_card.specs.Card.{cardText}
+use Rattle.fire_card.specs.Card.{cardText, cardMost}
 use Rattle.limits.specs.Refusals.{panelRefusal}
 use Rattle.record.proofs.Sound.{record-panel}
 use Rattle.record.specs.Answers.{decode}
@@ -39,7 +39,7 @@ put-card-requires c κs =
     let r = c .before .before .before in
     let b = now (r .before .before .before .args .bytes) in
     let h = none-read b (r .read .result) (r .read .ensures) (c .before .if1 .left) in
-    (ap panelRefusal (h .1) ∙ record-panel b (h .0), le-refl 232)
+    (ap panelRefusal (h .1) ∙ record-panel b (h .0), le-refl cardMost)
 
 slice-aggregate-deliver : tie.Need-slice-aggregate-deliver
 slice-aggregate-deliver c =

@@ -11,6 +11,7 @@ use Rattle.panel.specs.Faces.{shown}
 use Rattle.panel.specs.Lamellae.{lamellae}
 use Rattle.panel.specs.declared.Panel.{Panel}
 use Rattle.section.proofs.Chains.{counted-bounds}
+use Rattle.section.proofs.NothingCut.{nothing-cut}
 use Rattle.section.specs.declared.Section.{Section}
 use Rattle.section.specs.Tests.{carries, sectionAt, depthPasses, SectionFits}
 use borrow.Author.Needs.{needs}
@@ -44,7 +45,13 @@ section-passes-requires c κs =
       c .factor-of .ensures .1,
       (
         f .moment,
-        (f .strength, rw (s .section-at .ensures) (counted-bounds (a .depth) (lamellae (fire .result)) (f .thickness))),
+        (
+          f .strength,
+          (
+            rw (s .section-at .ensures) (counted-bounds (a .depth) (lamellae (fire .result)) (f .thickness)),
+            rw (s .section-at .ensures) (nothing-cut (a .depth) (lamellae (fire .result))),
+          ),
+        ),
       ),
     )
 

@@ -1,43 +1,15 @@
--- `load::minutes::load_minute_of` meets its contract: each fire of an accepted panel is that of an accepted one. Assumes nothing.
-use Prim.Native.Nat.{min}
-use Rattle.limits.proofs.Accepted.{accepted-fits}
-use Rattle.limits.proofs.Turned.{refusal-turned, shown-accepted}
-use Rattle.limits.specs.Refusals.{panelRefusal}
-use Rattle.load.specs.LoadMinute.{loadMinute}
-use Rattle.panel.proofs.Turning.{one-fire, two-fires}
+-- `load::minutes::load_minute_of` meets its contract: the minutes of the seconds are the load minute. Assumes nothing.
+use Rattle.load.specs.LoadMinute.{minutesIn}
+use Rattle.load.proofs.EveryFire.{minutes-printed}
 use borrow.Author.Needs.{needs}
-use mathlib.Core.Path.{ap, ap₂, _∙_}
+use mathlib.Core.Path.{ap, _∙_}
 use Rattle.load.proofs.minutes.load_minute_of.Statement.{statement}
 use Rattle.load.proofs.minutes.load_minute_of.Tie as tie
 
-fire-minute-requires : tie.Need-fire-minute-requires
-fire-minute-requires c κs = ap panelRefusal (c .shown .ensures) ∙ shown-accepted (c .before .args .p) (c .before .pre)
-
 returns : tie.Need-returns
 returns c =
-    let minute = c .before .before in
-    let p = minute .before .before .args .p in
-    minute .fire-minute .ensures ∙ ap loadMinute (minute .before .shown .ensures) ∙ one-fire loadMinute (p .face) p (c .if1 .taken)
-
-fire-minute-requires-2 : tie.Need-fire-minute-requires-2
-fire-minute-requires-2 c κs =
-    let start = c .before .before .before .before .before in
-    ap panelRefusal (c .turned .ensures) ∙ refusal-turned (start .args .p) ∙ start .pre
-
-returns-2 : tie.Need-returns-2
-returns-2 c =
-    let other = c .before in
-    let i = other .before .before in
-    let minute = i .before .before in
-    let p = minute .before .before .args .p in
-    c .lesser .ensures
-    ∙ ap₂ min (minute .fire-minute .ensures ∙ ap loadMinute (minute .before .shown .ensures))
-    (other .fire-minute2 .ensures ∙ ap loadMinute (other .before .turned .ensures))
-    ∙ two-fires loadMinute (p .face) p (i .if1 .left)
+    let s = c .before in
+    c .minutes-in .ensures ∙ ap minutesIn (s .load-seconds-of .ensures) ∙ minutes-printed (s .before .args .p) (s .before .pre)
 
 pub load-minute-of-spec : {M : Type 1} → statement M
-load-minute-of-spec =
-    tie.close
-    (tie.spec (λ c κs. accepted-fits (c .args .p) (c .pre) .count) fire-minute-requires returns
-    (λ c κs. accepted-fits (c .before .before .before .before .args .p) (c .before .before .before .before .pre) .count)
-    fire-minute-requires-2 (λ c κs. search needs) returns-2)
+load-minute-of-spec = tie.close (tie.spec (λ c κs. search needs) (λ c κs. search needs) returns)

@@ -22,8 +22,8 @@ held s end fits e =
     let cut = cuts-when s end (not-false (cutsPart s end) e) in
     (cut .0, (cut .1, fits (cut .0) (cut .1)))
 
-add-later : tie.Need-add-later
-add-later c =
+add-is-enough : tie.Need-add-is-enough
+add-is-enough c =
     let start = c .before .before .before .before in
     let h = held (start .args .s) (start .args .end) (start .pre) (c .before .if1 .left) in
     omega (arith, h .1 .0, h .1 .1 .within)
@@ -34,16 +34,16 @@ is-enough-requires c κs =
     let h = held (start .args .s) (start .args .end) (start .pre) (c .before .if1 .left) in
     omega (arith, h .1 .0, h .1 .1 .within)
 
-take-off-requires : tie.Need-take-off-requires
-take-off-requires c κs =
+take-tenth-requires : tie.Need-take-tenth-requires
+take-tenth-requires c κs =
     let start = c .before .before .before .before .before .before in
     let a = start .args in
     let h = held (a .s) (a .end) (start .pre) (c .before .before .before .if1 .left) in
     let tenth = holds-tenth (a .s) (a .end) (h .1 .1) (h .1 .0) in
-    ((omega arith, tenth .within), (tenth .n, (tenth .p, tenth .q)))
+    (tenth .within, (h .0, (omega (arith, tenth .p), omega (arith, tenth .q))))
 
-take-off-requires-2 : tie.Need-take-off-requires-2
-take-off-requires-2 c κs =
+take-off-requires : tie.Need-take-off-requires
+take-off-requires c κs =
     let start = c .before .before .before .before .before .before in
     let h = held (start .args .s) (start .args .end) (start .pre) (c .before .before .before .if1 .left) in
     let all = h .1 .1 in
@@ -54,7 +54,7 @@ returns-2 c =
     let start = c .before .before .before .before .before .before .before in
     let a = start .args in
     let h = held (a .s) (a .end) (start .pre) (c .before .before .before .before .if1 .left) in
-    c .take-off .ensures
+    c .take-tenth .ensures
     ∙ sym (step-moves (a .s) (a .end) (a .next) (h .0) (h .1 .0) (leb-true _ _ (sym (c .before .before .is-enough .ensures) ∙ c .before .if2 .taken)))
 
 returns-3 : tie.Need-returns-3
@@ -62,10 +62,10 @@ returns-3 c =
     let start = c .before .before .before .before .before .before .before in
     let a = start .args in
     let h = held (a .s) (a .end) (start .pre) (c .before .before .before .before .if1 .left) in
-    c .take-off2 .ensures
+    c .take-off .ensures
     ∙ sym (step-drops (a .s) (a .end) (a .next) (h .0) (h .1 .0) (leb-false _ _ (sym (c .before .before .is-enough .ensures) ∙ c .before .if2 .left)))
 
 pub step-of-spec : {M : Type 1} → statement M
 step-of-spec =
     tie.close
-    (tie.spec returns add-later is-enough-requires take-off-requires take-off-requires-2 returns-2 returns-3)
+    (tie.spec returns add-is-enough is-enough-requires take-tenth-requires take-off-requires returns-2 returns-3)

@@ -6,6 +6,7 @@ use Rattle.panel.specs.Lamellae.{lamellae}
 use Rattle.section.specs.declared.Section.{Section}
 use Rattle.section.specs.Tests.{carries}
 use Rattle.section.proofs.Chains.{counted-bounds}
+use Rattle.section.proofs.NothingCut.{nothing-cut}
 use Rattle.section.proofs.test.depth_passes.Statement.{statement}
 use Rattle.section.proofs.test.depth_passes.Tie as tie
 
@@ -19,7 +20,10 @@ section-passes-requires c κs =
         fits .moment,
         (
           fits .strength,
-          rw (c .section-at .ensures) (counted-bounds (a .depth) (lamellae (a .p)) (fits .thickness)),
+          (
+            rw (c .section-at .ensures) (counted-bounds (a .depth) (lamellae (a .p)) (fits .thickness)),
+            rw (c .section-at .ensures) (nothing-cut (a .depth) (lamellae (a .p))),
+          ),
         ),
       ),
     )

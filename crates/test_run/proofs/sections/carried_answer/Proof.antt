@@ -7,6 +7,7 @@ use Rattle.panel.specs.Faces.{shown}
 use Rattle.panel.specs.Lamellae.{lamellae, thickness}
 use Rattle.panel.specs.declared.Panel.{Panel}
 use Rattle.section.proofs.Chains.{counted-bounds}
+use Rattle.section.proofs.NothingCut.{nothing-cut}
 use borrow.Author.Needs.{needs}
 use mathlib.Core.Path.{_≡_, sym, _∙_}
 use Rattle.test_run.proofs.sections.carried_answer.Statement.{statement}
@@ -29,13 +30,13 @@ section-passes-requires c κs =
     let s = c .before in
     let fire = s .before .shown .result in
     let f = accepted-fits fire (carried-to-requires (s .before) κs) in
-    let depth = s .before .before .before .before .args .depth in (
+    let depth = min (s .before .before .before .before .args .depth) (thickness (lamellae fire)) in (
       c .factor-of .ensures .1,
       (
         f .moment,
         (
           f .strength,
-          rw (s .carried-to .ensures) (counted-bounds (min depth (thickness (lamellae fire))) (lamellae fire) (f .thickness)),
+          rw (s .carried-to .ensures) (counted-bounds depth (lamellae fire) (f .thickness), nothing-cut depth (lamellae fire)),
         ),
       ),
     )
