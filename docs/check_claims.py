@@ -24,7 +24,7 @@ def known_names():
 
 
 # Words of the language and its library, of commands and of printed lines.
-OTHER = set("""ltb leb eqb not elim take drop length replicate getD u32 A B c n q lo hi e S t h N P Q M R EI REI CARD CHAR REFUSED read write run
+OTHER = set("""ltb leb eqb not elim take drop length replicate getD u32 A B c n q lo hi e S t h N P Q M R RS EI REI CARD CHAR REFUSED read write run
 refl specs proofs src""".split())
 
 
