@@ -25,8 +25,8 @@ extern "C" {
 
 /* Writes the card of the record in `bytes` into `out`: lines of ASCII, each ending in a line feed, with no 0 after the last.
    CARD has the record's version; CHAR has the minute, the char depth in micrometres and the effective depth in tenths of mm; R and EI have
-   minutes and grades, RS the minutes and seconds that the load is borne. For face 2 these are the lesser of the two fires, and the depths
-   those of the first face.
+   minutes and grades, RS the failure time under load in whole minutes and seconds. For face 2 these are the lesser of the two fires, and
+   the depths those of the first face.
 
    Answers the number of bytes written; what `out` held after them stays. Or answers minus the number of the refusal, and `out` is as it
    was, every byte of it:
