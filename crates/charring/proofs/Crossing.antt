@@ -5,6 +5,10 @@ use native.Mathlib.Omega.{arith}
 use Rattle.charring.specs.declared.Place.{Place}
 use Rattle.charring.specs.Fits.{PlaceBounds, Crossed}
 
+-- twice a number that is times q
+pub doubled : (q x y : ℕ) → x ≡ q * y → 2 * x ≡ 2 * q * y
+doubled q x y e = omega arith
+
 -- the place at the end of a stretch, from its two parts, both times q
 pub crossed :
     (q : ℕ) (s : Place) (to fast settled left more : ℕ) → PlaceBounds s → to ≤ 400000000000
@@ -23,8 +27,5 @@ crossed q s to fast settled left more b h f d l m k =
       bounds = record { from = h; end = omega arith; gained = bound };
     }
   where
-    doubled : (q x y : ℕ) → x ≡ q * y → 2 * x ≡ 2 * q * y
-    doubled q x y e = omega arith
-
     total : (g x left more y : ℕ) → g + 2 * x ≤ 86400000000000 → left ≡ y → more + 2 * y ≤ 2 * x → g + more + 2 * left ≤ 86400000000000
     total g x left more y b l k = omega arith

@@ -1,6 +1,7 @@
 -- `charring::depths::char_of` meets its contract: each part is worked out as the definition says. Assumes nothing.
 use Prim.Native.Nat.{ℕ, _+_, _-_, _*_, min}
 use Rattle.charring.specs.Stages.{way, charred}
+use Rattle.charring.proofs.Crossing.{doubled}
 use borrow.Author.Needs.{needs}
 use mathlib.Core.Path.{_≡_, ap, ap₂, _∙_}
 use native.Mathlib.Omega.{arith}
@@ -32,9 +33,6 @@ returns c =
       depth = c .lesser2 .ensures .0 ∙ ap₂ min (ap₂ _+_ under after) back;
       most = omega (arith, c .lesser2 .ensures .1 .1, b .scaled4 .ensures .1, s .pre .1 .0 .1 .back);
     }
-  where
-    doubled : (q x y : ℕ) → x ≡ q * y → 2 * x ≡ 2 * q * y
-    doubled q x y e = omega arith
 
 pub char-of-spec : {M : Type 1} → statement M
 char-of-spec =
