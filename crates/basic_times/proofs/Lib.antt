@@ -1,2 +1,2 @@
-pub mod Entries
 pub mod Rule
+pub mod Entries

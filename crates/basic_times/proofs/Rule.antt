@@ -4,8 +4,8 @@ use Prim.Native.Nat.{ℕ, suc, _*_, _^_, _<_, _≤_}
 use mathlib.Core.Path.{_≡_, ap, _∙_}
 use mathlib.Core.Bool.{Bool, true, false, not, _&&_}
 use native.Mathlib.Omega.{arith}
-use native.Mathlib.Nat.{zero-mul, pow-succ', mul-le-mul-left, mul-le-mul-right, pow-le-pow-left}
-use borrow.Author.Tests.{le-leb, leb-false, lt-leb}
+use native.Mathlib.Nat.{zero-mul, pow-succ', mul-le-mul-left, mul-le-mul-right, pow-le-pow-left, le-trans}
+use borrow.Author.Tests.{le-leb, leb-true, leb-false, lt-leb}
 use lib.Dec.{T, ltb, ltb→lt}
 use Rattle.numbers.proofs.Booleans.{T-false, T-left, T-right}
 use Rattle.numbers.specs.Largest.{IsLargest}
@@ -16,6 +16,14 @@ use Rattle.panel.proofs.Thicknesses.{every-material}
 use Rattle.basic_times.specs.declared.Role.{Role}
 use Rattle.basic_times.specs.declared.Role.the-variants.{Protection, Insulation}
 use Rattle.basic_times.specs.Rules.{longestTime, Rule, keeps, largestTime, ruleOf, basicTime}
+
+-- a smaller number keeps to a rule too
+pub keeps-down : (r : Rule) (h m n : ℕ) → m ≤ n → keeps r h n ≡ true → keeps r h m ≡ true
+keeps-down r h m n l e =
+    let most = (r .base) ^ (r .root) * h ^ (r .power) in
+    let scale = (r .reference) ^ (r .power) in
+    le-leb (m ^ (r .root) * scale) most
+    (le-trans (mul-le-mul-right scale (pow-le-pow-left l (r .root))) (leb-true (n ^ (r .root) * scale) most e))
 
 -- what does not keep to a rule at the greatest thickness keeps to it at no smaller one, and nor does a greater number
 fails-on : (r : Rule) (h top n m : ℕ) → h ≤ top → n ≤ m → keeps r top n ≡ false → keeps r h m ≡ false
@@ -40,17 +48,22 @@ keeps-zero r h pos =
 abbrev pub bounded : Rule → ℕ → Bool
 bounded r top = ltb 0 (r .root) && not (keeps r top (suc longestTime))
 
+-- then 0 keeps to it, and what is above `longestTime` does not
+pub zero-kept : (r : Rule) (top : ℕ) → T (bounded r top) → (h : ℕ) → keeps r h 0 ≡ true
+zero-kept r top t h = keeps-zero r h (ltb→lt 0 (r .root) (T-left (ltb 0 (r .root)) (not (keeps r top (suc longestTime))) t))
+
+pub longer-not-kept : (r : Rule) (top : ℕ) → T (bounded r top) → (h : ℕ) → h ≤ top → (m : ℕ) → longestTime < m → keeps r h m ≡ false
+longer-not-kept r top t h l m k =
+    let beyond = keeps r top (suc longestTime) in
+    fails-on r h top (suc longestTime) m l k (T-false beyond (T-right (ltb 0 (r .root)) (not beyond) t))
+
 pub rule-largest : (r : Rule) (top : ℕ) → T (bounded r top) → (h : ℕ) → h ≤ top → IsLargest (keeps r h) (largestTime r h)
 unfolding largestTime
-rule-largest r top t h l =
-    let root = ltb 0 (r .root) in
-    let beyond = keeps r top (suc longestTime) in
-    largest-found (keeps r h) longestTime (keeps-zero r h (ltb→lt 0 (r .root) (T-left root (not beyond) t)))
-    (λ m k. fails-on r h top (suc longestTime) m l k (T-false beyond (T-right root (not beyond) t)))
+rule-largest r top t h l = largest-found (keeps r h) longestTime (zero-kept r top t h) (longer-not-kept r top t h l)
 
 -- Every table
 
-all-bounded : (role : Role) (m : Material) → T (bounded (ruleOf role m) (thickest m))
+pub all-bounded : (role : Role) (m : Material) → T (bounded (ruleOf role m) (thickest m))
 all-bounded Protection m = every-material (λ k. bounded (ruleOf Protection k) (thickest k)) tt m
 all-bounded Insulation m = every-material (λ k. bounded (ruleOf Insulation k) (thickest k)) tt m
 

@@ -1,2 +1,3 @@
 pub mod Rules
+pub mod Tables
 pub mod Answers

@@ -1,6 +1,6 @@
 -- That `largest` is the largest: it keeps the test, and nothing above it does.
-use Prim.Native.Nat.{ℕ, zero, suc, _<_, _≤_}
-use mathlib.Core.Path.{_≡_, refl}
+use Prim.Native.Nat.{ℕ, zero, suc, _+_, _<_, _≤_}
+use mathlib.Core.Path.{_≡_, refl, sym, _∙_}
 use mathlib.Core.Bool.{Bool, true, false}
 use native.Mathlib.Omega.{arith}
 use native.Mathlib.Decide.{decLt}
@@ -28,6 +28,10 @@ largest-last test (suc n) v h kept beyond = go (test (suc n)) refl (largest-last
 -- what is largest of all is found below any bound that it keeps to
 pub largest-is : (test : ℕ → Bool) (bound v : ℕ) → IsLargest test v → v ≤ bound → largest test bound ≡ v
 largest-is test bound v l h = largest-last test bound v h (l .kept) (λ m k u. l .beyond m k)
+
+-- there is one largest
+pub largest-unique : (test : ℕ → Bool) (v w : ℕ) → IsLargest test v → IsLargest test w → v ≡ w
+largest-unique test v w l k = sym (largest-is test (v + w) v l (omega arith)) ∙ largest-is test (v + w) w k (omega arith)
 
 -- for a test that every smaller number keeps too, it is enough that v keeps it and the next does not
 pub largest-by-next :

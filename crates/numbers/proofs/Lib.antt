@@ -1,5 +1,6 @@
--- Tests, products and the largest number that keeps a test.
+-- Tests, every case of an enum, products and the largest number that keeps a test.
 pub mod Booleans
+pub mod EveryCase
 pub mod Products
 pub mod LargestKept
 -- Lists: first values, parts and stores.
