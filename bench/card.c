@@ -254,6 +254,25 @@ static Panel turned(const Panel *p)
 
 /* ---- charring at n/q minutes, worked out times q, so that nothing is lost; up to q 60 it fits */
 
+/* 25 mm past a line or at the next line, where lamella `at` ends. */
+static uint64_t line_end(const Panel *p, uint64_t line, size_t at)
+{
+    uint64_t past = line + UINT64_C(25000000000);
+    return at + 1 < p->count ? smaller(past, line + UINT64_C(100000000) * p->thicknesses[at]) : past;
+}
+
+/* Of the lines that are passed at a depth, the deepest sets the end. */
+static uint64_t passed_end(const Panel *p, uint64_t deep, uint64_t intact)
+{
+    uint64_t end = intact, line = 0;
+    for (size_t i = 0; i + 1 < p->count; i++) {
+        line += UINT64_C(100000000) * p->thicknesses[i];
+        if (p->bond == 1 && line < deep)
+            end = line_end(p, line, i + 1);
+    }
+    return end;
+}
+
 static Fire fire_of(const Panel *p)
 {
     const uint64_t fast_run = UINT64_C(25000000000);
@@ -267,6 +286,7 @@ static Fire fire_of(const Panel *p)
     f.plain = UINT64_C(10000) * p->rate;
     f.depth = f.slow * (f.failure - f.start);
     f.end = p->boards == 0 ? 0 : f.start == f.failure ? smaller(2 * f.plain * f.failure, fast_run) : fast_run;
+    f.end = passed_end(p, f.depth, f.end);
     f.back = 100000000 * total;
     f.full = larger(20000, f.start);
     return f;
@@ -440,9 +460,10 @@ int32_t yurbantse_card(const uint8_t *bytes, size_t bytes_length, uint8_t *out, 
         p = turned(&p);
     Fire f = fire_of(&p);
     uint32_t second = load_second(&p, &f), ei = ei_minute(&p);
-    if (p.face == 2) { /* the numbers of f do not look at the order of the lamellae */
+    if (p.face == 2) {
         Panel t = turned(&p);
-        second = (uint32_t)smaller(second, load_second(&t, &f));
+        Fire last = fire_of(&t);
+        second = (uint32_t)smaller(second, load_second(&t, &last));
         ei = (uint32_t)smaller(ei, ei_minute(&t));
     }
     uint32_t load = second / 60;

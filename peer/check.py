@@ -136,7 +136,8 @@ def check_load_minutes(count):
         peer.check_load_minute(faced(panel, EACH_ALONE))
         check_faces(panel)
     rng = random.Random(1)
-    kinds = (random_records.random_panel, random_records.failing_about, random_records.failing_at_once, random_records.recovering)
+    kinds = (random_records.random_panel, random_records.failing_about, random_records.failing_at_once, random_records.recovering,
+             random_records.failing_past_lines)
     for number in range(count):
         peer.check_load_minute(random_records.any_face(rng, kinds[number % len(kinds)](rng)))
 

@@ -79,7 +79,7 @@ def random_minute(rng):
 
 
 def random_fire(rng, record):
-    """The record, or most of the time one of a panel that chars fast, or that meets a bond line as its boards fail."""
+    """The record, or most of the time one of a panel that chars fast, or that is about a bond line as its boards fail."""
     way = rng.randrange(4)
     if way == 0:
         return record
@@ -107,6 +107,8 @@ def random_load(rng, record):
         return random_records.any_record(rng, random_records.failing_at_once(rng))
     if way == 3:
         return random_records.any_record(rng, random_records.recovering(rng))
+    if way == 4:
+        return random_records.any_record(rng, random_records.failing_past_lines(rng))
     return random_records.any_record(rng, random_records.failing_about(rng))
 
 

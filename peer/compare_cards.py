@@ -46,6 +46,7 @@ KINDS = (
     lambda rng, number: any_record(rng, random_records.failing_at_once(rng)),
     lambda rng, number: random_records.damaged(rng, any_record(rng, random_records.random_panel(rng))),
     lambda rng, number: any_record(rng, random_records.recovering(rng)),
+    lambda rng, number: any_record(rng, random_records.failing_past_lines(rng)),
     lambda rng, number: random_records.random_record(rng),
 )
 

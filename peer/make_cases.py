@@ -673,6 +673,38 @@ def char_boundary_cases():
     yield behind(plate(600), (F, 125), (F, 125), failure_time=360_000, gap=1), (39, 40, 360), "two F wide, t_f 360"
 
 
+def floor(*thicknesses, failure_time=61_000, moment=1_000):
+    """Lamellae in tenths of mm, along and across by turns, with falling bond behind F 12.5 at rate 80: 0.62 mm/min from 21 min to t_f."""
+    lamellae = tuple(((i + 1) % 2, thickness) for i, thickness in enumerate(thicknesses))
+    return falls(behind(G._replace(moment=moment, lamellae=lamellae), (F, 125), failure_time=failure_time), 80)
+
+
+def passed_line_cases():
+    """(panel, minutes, text): lines about the char at t_f, 24.8 mm at 61 min and 43.4 mm at 91 min, and the ends of the runs from there."""
+    for first, place in ((249, "a tenth short of"), (248, "at"), (247, "a tenth past")):
+        yield floor(first, 400, 400), (60, 61, 62, 76, 77), f"char at t_f {place} a line"
+    for first, place in ((185, "a tenth short of"), (184, "at"), (183, "a tenth past")):
+        yield floor(first, 600, 400, failure_time=91_000), (90, 91, 92), f"char at t_f {place} line + 25 mm"
+    yield floor(150, 150, 400, 300, failure_time=91_000), (91, 98, 99), "two lines passed"
+    yield floor(*(100,) * 9, failure_time=91_000), (91, 95, 96, 101, 102), "four lines passed, the next nearer than 25 mm"
+    yield floor(200, 200, 600), (61, 70, 71, 86, 87), "a line passed, the next 20 mm on"
+    yield floor(200, 250, 400), (61, 73, 74), "a line passed, the next 25 mm on"
+    yield floor(100, 148, 400), (61, 76, 77), "a line passed, the next reached at t_f"
+    yield floor(100, 100, 600), (61, 73, 74), "the last line passed"
+    yield floor(100, 140, 100, moment=100), (61, 66, 67), "the last line passed, end past the back face"
+    yield falls(behind(crossed(10, 40, 40), (F, 125), (F, 125), failure_time=79_000), 80), (78, 79, 89, 90), "two F, a line passed"
+
+
+def passed_line_panels():
+    """(panel, minutes, text): also with other faces, and with a bond that holds."""
+    yield from passed_line_cases()
+    for face in (FIRST_FACE, LAST_FACE, EACH_ALONE):
+        yield faced(floor(200, 400, 400), face), (61, 73, 74), f"a line passed from the first face alone, face {face}"
+        yield faced(floor(200, 400, 150), face), (61, 73, 74), f"another line passed from each face, face {face}"
+    for panel, minutes, text in passed_line_cases():
+        yield panel._replace(bond=0), minutes[:3], f"{text}, bond holds"
+
+
 def char_kind_cases():
     for gap, joint in ((0, "narrow"), (1, "wide")):
         yield falls(G._replace(gap=gap), 65), (45,), f"unclad, {joint}"
@@ -723,6 +755,7 @@ def printed_char_cases():
 def char_panel_cases():
     yield from starred_char_cases()
     yield from char_boundary_cases()
+    yield from passed_line_panels()
     yield from char_kind_cases()
     for panel, text in reading_cases():
         yield panel, READING_MINUTES.get(text, ()), text
@@ -761,6 +794,7 @@ def table_cases():
     for panel, text in reading_cases():
         if text in READING_MINUTES:
             yield 400, peer.encode(panel), text
+    yield 361, peer.encode(floor(200, 200, 600)), "a line passed before t_f"
     yield 361, peer.encode(falls(one(O, 279), 65)), "O 27.9, falling"
     yield 400, peer.encode(THICK), "400 mm"
     yield 400, peer.encode(falls(LONGEST, 50)), "the longest record"
@@ -941,6 +975,8 @@ def card_cases():
     for panel, text in load_panels():
         yield peer.encode(panel), 200, text
     for panel, text in reading_cases():
+        yield peer.encode(panel), 200, text
+    for panel, _, text in passed_line_panels():
         yield peer.encode(panel), 200, text
     yield peer.encode(LONGEST), 200, "the longest record"
     for record, text in list(second_records()) + list(face_cases()):

@@ -298,6 +298,10 @@ def first_end(panel, depth, failure, rate):
     """The depth in mm where the first run at this rate ends; not above `depth`, that at t_f, where there is no such run."""
     if not panel.boards:
         return depth
+    lines = bond_lines(panel)
+    passed = [line for line in lines if line < depth]
+    if passed:
+        return min([max(passed) + FAST_RUN] + lines[len(passed):])
     if t_f(panel) > t_ch(panel):
         return FAST_RUN
     ends = min(2 * failure, failure + FAST_RUN / rate)

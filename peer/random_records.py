@@ -133,8 +133,20 @@ def at_switch(rng, panel):
     return changed._replace(moment=0)
 
 
+def thicknesses_to(rng, total):
+    """At most eight thicknesses of lamellae, in tenths of mm, with this sum; None where there are none."""
+    counts = [count for count in range(1, 9) if 100 * count <= total <= 600 * count]
+    if not counts:
+        return None
+    parts = [100] * rng.choice(counts)
+    while sum(parts) < total:
+        i = rng.randrange(len(parts))
+        parts[i] += rng.randint(0, min(600 - parts[i], total - sum(parts)))
+    return parts
+
+
 def met_at_failure(rng):
-    """A panel behind boards of type F that fail as the char reaches the end of the first lamella."""
+    """A panel behind boards of type F that fail as the char is at a lamella's end or 25 mm past it, or a tenth of mm to either side."""
     while True:
         panel = random_panel(rng)._replace(moment=0)
         if not peer.is_type_f(panel.boards):
@@ -142,10 +154,27 @@ def met_at_failure(rng):
         start = peer.t_ch(panel)
         slow = (10_000 - 18 * panel.boards[-1].thickness) * panel.rate  # picometres in a thousandth of a minute
         step = 10 ** 8 // gcd(10 ** 8, slow)                            # times between whole tenths of mm
-        times = [time for time in range(step, 360_001 - start, step) if 100 <= slow * time // 10 ** 8 <= 600]
-        if times:
-            time = rng.choice(times)
-            return with_lamella(panel._replace(failure_time=start + time), 0, 1, slow * time // 10 ** 8)
+        times = range(step, 360_001 - start, step)
+        if not times:
+            continue
+        time = rng.choice(times)
+        above = thicknesses_to(rng, slow * time // 10 ** 8 - rng.choice([0, 0, 250]) + rng.choice([-1, 0, 0, 1]))
+        if above is None:
+            continue
+        lamellae = tuple((rng.randint(0, 1), thickness) for thickness in above) + ((1, panel.lamellae[0][1]),) + panel.lamellae[1:]
+        lamellae = lamellae[:9]
+        if peer.thickness_of(lamellae) <= 4_000:
+            return panel._replace(failure_time=start + time, lamellae=lamellae)
+
+
+def failing_past_lines(rng):
+    """A panel of `met_at_failure` that fails within two hours after its boards."""
+    while True:
+        panel = met_at_failure(rng)
+        minute = min(360, panel.failure_time // 1_000 + rng.randint(0, 120))
+        moment = greatest_moment(panel, peer.effective_tenths(panel, minute)) + rng.choice([0, 0, 1])
+        if 1 < moment <= min(1_000_000, greatest_moment(panel)):
+            return panel._replace(moment=moment)
 
 
 def soon_failing(rng, panel):
@@ -245,5 +274,5 @@ if __name__ == "__main__":
     from collections import Counter
     print(sorted(Counter(peer.decode(record)[0] for record in records(1, 20_000)).items()))
     rng = random.Random(1)
-    for panels in (random_panel, failing_about, failing_at_once, recovering):
+    for panels in (random_panel, failing_about, failing_at_once, recovering, failing_past_lines):
         print(panels.__name__, sorted(Counter(peer.load_minute(panels(rng)) // 30 * 30 for _ in range(300)).items()))

@@ -6,7 +6,7 @@ use Rattle.section.specs.Sections.{countedFrom, total, lowest, highest, section
 use Rattle.section.specs.Tests.{carries}
 use Rattle.limits.specs.Causes.{some}
 use Rattle.limits.specs.Refusals.{panelRefusal}
-use Rattle.charring.specs.Fires.{failureOf, k2, clad, firstEnd, linesFrom, bondLines, lineEnd}
+use Rattle.charring.specs.Fires.{failureOf, k2, clad, linesFrom, bondLines, lineEnd, intactEnd, passedEnd, firstEnd}
 use Rattle.charring.specs.Stages.{stretches, way, charred}
 use Rattle.charring.specs.Depths.{charAt, effectiveAt}
 use Rattle.load.specs.LoadMinute.{everyFrom, timeTest}
@@ -19,5 +19,5 @@ use Rattle.cases.specs.Starred.{starred}
 use Rattle.cases.proofs.Tested.{agree, all-tested}
 
 pub starred-hold : EveryRowHolds starred
-unfolding starred agree largest lamellaeOf thickness countedFrom total lowest highest sectionOf carries some panelRefusal materialOf largestTime timeOf jointOf positioned withLayer sumAfter eiSum failureOf k2 clad firstEnd linesFrom bondLines lineEnd stretches way charred charAt effectiveAt everyFrom timeTest failsRightAfter
+unfolding starred agree largest lamellaeOf thickness countedFrom total lowest highest sectionOf carries some panelRefusal materialOf largestTime timeOf jointOf positioned withLayer sumAfter eiSum failureOf k2 clad linesFrom bondLines lineEnd intactEnd passedEnd firstEnd stretches way charred charAt effectiveAt everyFrom timeTest failsRightAfter
 starred-hold = all-tested starred tt

@@ -8,7 +8,7 @@ use Rattle.limits.specs.Causes.{some}
 use Rattle.limits.specs.Refusals.{panelRefusal}
 use Rattle.record.specs.Layouts.{lamellaeIn, panelOf}
 use Rattle.record.specs.Refusals.{recordRefusal}
-use Rattle.charring.specs.Fires.{failureOf, k2, clad, firstEnd, linesFrom, bondLines, lineEnd}
+use Rattle.charring.specs.Fires.{failureOf, k2, clad, linesFrom, bondLines, lineEnd, intactEnd, passedEnd, firstEnd}
 use Rattle.charring.specs.Stages.{stretches, way, charred}
 use Rattle.charring.specs.Depths.{charAt, effectiveAt}
 use Rattle.charring.specs.Phases.{phaseOn, phaseAt}
@@ -21,5 +21,5 @@ use Rattle.cases.specs.Further.{further}
 use Rattle.cases.proofs.Tested.{phaseNumber, agree, all-tested}
 
 pub further-hold : EveryRowHolds further
-unfolding further agree phaseNumber largest lamellaeOf thickness countedFrom total lowest highest sectionOf carries some materialOf lamellaeIn panelOf recordRefusal panelRefusal failureOf k2 clad firstEnd linesFrom bondLines lineEnd stretches way charred charAt effectiveAt phaseOn phaseAt everyFrom timeTest failsRightAfter largestTime timeOf jointOf positioned withLayer sumAfter eiSum
+unfolding further agree phaseNumber largest lamellaeOf thickness countedFrom total lowest highest sectionOf carries some materialOf lamellaeIn panelOf recordRefusal panelRefusal failureOf k2 clad linesFrom bondLines lineEnd intactEnd passedEnd firstEnd stretches way charred charAt effectiveAt phaseOn phaseAt everyFrom timeTest failsRightAfter largestTime timeOf jointOf positioned withLayer sumAfter eiSum
 further-hold = all-tested further tt

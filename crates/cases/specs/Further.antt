@@ -1,5 +1,6 @@
 -- Cases worked through further, by hand: of document 01's "Charring" what its starred lines leave out, with the phases; and of document
--- 02 panels behind wood-based boards, walls with a fire on either face, and failure times in minutes and seconds.
+-- 02 panels behind wood-based boards, walls with a fire on either face, failure times in minutes and seconds, and floors charred past a
+-- bond line before their board fails.
 use Prim.Native.Nat.{ℕ}
 use mathlib.Core.List.{List, [], _∷_}
 use Rattle.panel.specs.declared.Cladding.{Cladding}
@@ -74,6 +75,10 @@ wall face =
     0 ∷ 28 ∷ 2 ∷ face ∷ 1 ∷ 65 ∷ 0 ∷ 0 ∷ 240 ∷ 0 ∷ 0 ∷ 19 ∷ 136 ∷ 0 ∷ 0 ∷ 0 ∷ 0 ∷ 0 ∷ 3
     ∷ 1 ∷ 0 ∷ 200 ∷ 0 ∷ 1 ∷ 44 ∷ 1 ∷ 1 ∷ 144 ∷ []
 
+-- a floor, 20 mm along, 40 across, 40 along, behind one board of type F 12.5, β 80; f 240, M 1,000; bond and failure time are open
+abbrev pub floor : ℕ → ℕ → Panel
+floor bond failure = panelWith bond 80 0 240 1000 failure (One (board125 70)) (lamella 1 200 ∷ lamella 0 400 ∷ lamella 1 400 ∷ [])
+
 -- Rows
 
 unfoldable pub further : List Case
@@ -97,6 +102,26 @@ further =
     ∷ inPhase five 85133 840 (Fast 8000000)
     -- G behind type F: without the first run behind boards R would be 129
     ∷ bears gBehindF 117
+    -- the floor's board fails at 61 min: k2·β is 0.62 mm/min from 21 min on, so 24.8 mm then, past the line at 20 mm. The first run ends at
+    -- 20 + 25 = 45 mm, short of the next line at 60: 2β is 1.6 mm/min, so 40.8 mm at 71 min
+    ∷ gives (panelRefusal (floor 1 61000)) 0
+    ∷ gives (charAt (floor 1 61000) 61 1) (hundredths 2480 1)
+    ∷ inPhase (floor 1 61000) 61 1 (Fast 4500000)
+    ∷ gives (charAt (floor 1 61000) 71 1) (hundredths 4080 1)
+    -- 45 mm after 20.2/1.6 min; then β; at 60 mm, 15/0.8 min later, the line's own run
+    ∷ gives (charAt (floor 1 61000) 589 8) (hundredths 4500 8)
+    ∷ inPhase (floor 1 61000) 589 8 Settled
+    ∷ inPhase (floor 1 61000) 739 8 (Fast 8500000)
+    -- it fails as 85.2 mm no longer carry, that is at 78.2 mm of char, 18.2/1.6 min later
+    ∷ bears (floor 1 61000) 103
+    ∷ failureTime (floor 1 61000) 415 4
+    -- if the bond holds, the first run ends at 25 mm, after 0.2/1.6 min; it fails at 53.2/0.8 min more
+    ∷ inPhase (floor 0 61000) 61 1 (Fast 2500000)
+    ∷ inPhase (floor 0 61000) 489 8 Settled
+    ∷ failureTime (floor 0 61000) 1021 8
+    -- if the board fails at 95 min, 45.88 mm are charred by then, more than 45: no run starts
+    ∷ gives (charAt (floor 1 95000) 95 1) (hundredths 4588 1)
+    ∷ inPhase (floor 1 95000) 95 1 Settled
     -- two boards of type A: t_ch 42,000; 2β up to 25 mm, which comes before 84 min; then β
     ∷ gives (charringStart 0 (twoA .cladding)) 42000
     ∷ gives (charAt twoA 50 1) (hundredths 1040 1)

@@ -21,6 +21,7 @@ pub mod Numbers
 pub mod Ways
 pub mod Crossing
 pub mod Onward
+pub mod PassedLines
 pub mod PhaseTests
 pub mod Minutes
 pub mod Replies

@@ -1,24 +1,22 @@
 -- The phase on the way through the panel, line by line: what will come out stays the same.
-use Prim.Native.Nat.{ℕ, suc, _+_, _-_, _*_, _<_, _≤_, min, max}
+use Prim.Native.Nat.{ℕ, _+_, _-_, _*_, _<_, _≤_, min, max}
 use mathlib.Core.Path.{_≡_, refl, sym, ap, _∙_}
 use mathlib.Core.Bool.{Bool, true, false, _&&_}
 use mathlib.Core.List.{List, [], _∷_}
 use native.Mathlib.Omega.{arith}
 use native.Mathlib.Nat.{one-mul}
-use native.Mathlib.Decide.{decLt}
-use native.Mathlib.Numerals.{add-one}
 use borrow.Author.Tests.{le-ltb, lt-ltb, leb-true, leb-false, ltb-true, ltb-false}
 use lib.ListN.{drop, getD}
 use lib.Dec.{eqb, leb, ltb}
 use Rattle.numbers.proofs.Booleans.{and-left, and-right}
 use Rattle.panel.specs.declared.Panel.{Panel}
-use Rattle.panel.specs.Lamellae.{Lamella, lamellae, lamellaeOf, thickness}
+use Rattle.panel.specs.Lamellae.{lamellae, lamellaeOf, thickness}
 use Rattle.charring.specs.declared.Fire.{Fire}
 use Rattle.charring.specs.Fires.{tenth, backFace, linesFrom, bondLines, lineEnd}
 use Rattle.charring.specs.Stages.{Stretch, stretches, way, fastPart, settledPart}
 use Rattle.charring.specs.Phases.{phaseOn}
 use Rattle.charring.specs.Fits.{FireOf, FireBounds, LineEnd, phaseIn}
-use Rattle.charring.proofs.Ways.{linesIf, to-line, past-line, lamellaAt, rest-at, inner-at, last-at, no-line, next-ends, bond-lines}
+use Rattle.charring.proofs.Ways.{linesIf, to-line, past-line, no-line, line-here, end-here, next-ends, bond-lines}
 
 -- within a stretch
 in-stretch : (s : Stretch) (ss : List Stretch) (x : ℕ) → x < fastPart s + 2 * settledPart s
@@ -70,26 +68,6 @@ in-last s x = go (ltb x (fastPart s + 2 * settledPart s)) refl
         (past-stretch s [] x (x - (fastPart s + 2 * settledPart s)) h refl)
 
 -- The walk over a panel's arrays
-
--- the line below lamella i, where the bond falls
-line-here : (p : Panel) (i line next : ℕ) → i + 1 < p .count → next ≡ line + 100000000 * getD (p .thicknesses) i 0 → (b : Bool) → b ≡ true
-    → linesIf b line (drop i (lamellae p)) ≡ next ∷ linesIf b next (drop (i + 1) (lamellae p))
-unfolding linesFrom
-line-here p i line next k e b t =
-    rw (add-one i, t)
-    (ap (linesFrom line) (inner-at p i k)
-    ∙ ap (λ (y : ℕ). y ∷ linesFrom y (lamellaAt p (suc i) ∷ drop (suc (suc i)) (lamellae p))) (sym e)
-    ∙ ap (λ (ls : List Lamella). next ∷ linesFrom next ls) (sym (rest-at p (suc i) (omega arith))))
-
--- where the run that starts there ends
-end-here : (p : Panel) (i next r : ℕ) → i < p .count → LineEnd next (p .thicknesses) i (p .count) r → (b : Bool) → b ≡ true
-    → r ≡ lineEnd next (linesIf b next (drop i (lamellae p)))
-unfolding linesFrom lineEnd
-end-here p i next r k h b t = rw t (go (decLt (i + 1) (p .count)))
-  where
-    go : Dec (i + 1 < p .count) → r ≡ lineEnd next (linesFrom next (drop i (lamellae p)))
-    go (yes y) = h .inner y ∙ ap (λ (ls : List Lamella). lineEnd next (linesFrom next ls)) (sym (inner-at p i y))
-    go (no y) = h .last (omega arith) ∙ ap (λ (ls : List Lamella). lineEnd next (linesFrom next ls)) (sym (last-at p i (omega arith)))
 
 pub record Onward (p : Panel) (x i line from end left : ℕ) : Type 0 where
   pub ends : line ≡ tenth * thickness (lamellaeOf (p .directions) (p .thicknesses) i)

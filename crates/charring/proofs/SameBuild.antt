@@ -12,7 +12,7 @@ use lib.ListN.{drop}
 use Rattle.limits.specs.Lines.{Line, refusal, answer}
 use Rattle.limits.specs.Refusals.{panelLines, panelRefusal}
 use Rattle.limits.proofs.FirstLine.{open-above}
-use Rattle.charring.specs.Fires.{failureOf, firstEnd, bondLines}
+use Rattle.charring.specs.Fires.{failureOf, intactEnd, firstEnd, bondLines}
 use Rattle.charring.specs.Stages.{way}
 use Rattle.charring.specs.Depths.{charAt, effectiveAt, roundUp, tenthsAt}
 use Rattle.charring.specs.Phases.{phaseAt}
@@ -35,19 +35,19 @@ use Rattle.charring.proofs.Unused.{char-same, tenths-same, phase-same, 
 
 module _ (a b : Panel) (h : SameBuild a b) where
   pub char-shared : (n q : ℕ) → charAt a n q ≡ charAt b n q
-  unfolding charAt way firstEnd failureOf bondLines
+  unfolding charAt way firstEnd intactEnd failureOf bondLines
   char-shared n q = same-shared (λ (p : Panel). charAt p n q) (λ p r k. char-same p r k n q) (λ p version strength moment. refl) a b h
 
   pub tenths-shared : (n q : ℕ) → tenthsAt a n q ≡ tenthsAt b n q
-  unfolding effectiveAt charAt way firstEnd failureOf bondLines
+  unfolding effectiveAt charAt way firstEnd intactEnd failureOf bondLines
   tenths-shared n q = same-shared (λ (p : Panel). tenthsAt p n q) (λ p r k. tenths-same p r k n q) (λ p version strength moment. refl) a b h
 
   pub phase-shared : (n q : ℕ) → phaseAt a n q ≡ phaseAt b n q
-  unfolding phaseAt charAt way firstEnd failureOf bondLines
+  unfolding phaseAt charAt way firstEnd intactEnd failureOf bondLines
   phase-shared n q = same-shared (λ (p : Panel). phaseAt p n q) (λ p r k. phase-same p r k n q) (λ p version strength moment. refl) a b h
 
   pub table-shared : depthTable a ≡ depthTable b
-  unfolding depthTable charAt way firstEnd failureOf bondLines
+  unfolding depthTable charAt way firstEnd intactEnd failureOf bondLines
   table-shared = same-shared depthTable table-same (λ p version strength moment. refl) a b h
 
 -- Answers, where neither panel is turned back

@@ -3,7 +3,7 @@ use Prim.Native.Nat.{ℕ, _-_, _*_}
 use mathlib.Core.Path.{_≡_, refl, ap}
 use mathlib.Core.List.{List, [], _++_}
 use mathlib.Core.Bool.{true, false}
-use lib.Dec.{eqb, leb, ltb}
+use lib.Dec.{eqb}
 use lib.ListN.{drop}
 use Rattle.numbers.proofs.FirstValues.{firsts-agree}
 use Rattle.panel.specs.declared.Panel.{Panel}
@@ -13,12 +13,10 @@ use Rattle.panel.proofs.Used.{lamellae-cleared, unused}
 use Rattle.panel.proofs.Turning.{shown-same}
 use Rattle.limits.specs.Lines.{Line, refusal, answer}
 use Rattle.limits.proofs.Unused.{lines-unused}
-use Rattle.charring.specs.Fires.{tenth, startOf, failureOf, plainRate, firstEnd, linesFrom, bondLines}
-use Rattle.charring.specs.Stages.{Stretch, way}
+use Rattle.charring.specs.Fires.{tenth, failureOf, intactEnd, firstEnd, linesFrom, bondLines}
+use Rattle.charring.specs.Stages.{way}
 use Rattle.charring.specs.Depths.{charAt, effectiveAt, roundUp, micrometresAt, tenthsAt}
-use Rattle.charring.specs.Phases.{phaseOn, phaseAt}
-use Rattle.charring.specs.declared.Phase.{Phase}
-use Rattle.charring.specs.declared.Phase.the-variants.{Untouched, UnderCladding, Settled}
+use Rattle.charring.specs.Phases.{phaseFrom, phaseAt}
 use Rattle.charring.specs.declared.PhaseAnswer.the-variants.{At, Refused as RefusedPhase}
 use Rattle.charring.specs.declared.DepthAnswer.the-variants.{Depth, Refused as RefusedDepth}
 use Rattle.charring.specs.Answers.{
@@ -41,7 +39,7 @@ lines-cleared p =
     ap (λ (ls : List Lamella). elim (eqb (p .bond) 1) as (λ _. List ℕ) [ true ↦ linesFrom 0 ls | false ↦ [] ]) (lamellae-cleared p)
 
 way-cleared : (p : Panel) → way (cleared p) ≡ way p
-unfolding way firstEnd failureOf
+unfolding way firstEnd intactEnd failureOf
 way-cleared p = rw (lines-cleared p, lamellae-cleared p) refl
 
 char-cleared : (p : Panel) (n m : ℕ) → charAt (cleared p) n m ≡ charAt p n m
@@ -51,20 +49,6 @@ char-cleared p n m = rw (way-cleared p, lamellae-cleared p) refl
 tenths-cleared : (p : Panel) (n m : ℕ) → tenthsAt (cleared p) n m ≡ tenthsAt p n m
 unfolding effectiveAt
 tenths-cleared p n m = rw (char-cleared p n m, lamellae-cleared p) refl
-
--- the phase of p as it follows from its char depth, its back face and its way
-abbrev phaseFrom : Panel → ℕ → ℕ → List Stretch → ℕ → ℕ → Phase
-phaseFrom p char back way n m =
-    elim (leb (2 * m * back) char) as (λ _. Phase) [
-      | true ↦ Settled
-      | false ↦
-          elim (ltb (1000 * n) (m * startOf p)) as (λ _. Phase) [
-            | true ↦ Untouched
-            | false ↦
-                elim (ltb (1000 * n) (m * failureOf p)) as (λ _. Phase)
-                [ true ↦ UnderCladding | false ↦ phaseOn way (2 * plainRate p * (1000 * n - m * failureOf p)) m ]
-          ]
-    ]
 
 phase-cleared : (p : Panel) (n m : ℕ) → phaseAt (cleared p) n m ≡ phaseAt p n m
 unfolding phaseAt failureOf

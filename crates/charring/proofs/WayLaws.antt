@@ -1,6 +1,6 @@
 -- A panel's way: its stretches follow each other from the depth at t_f to the back face.
 use Prim.Native.Nat.{ℕ, zero, suc, _+_, _-_, _*_, _/_, _≤_, _<_, min, max}
-use mathlib.Core.Path.{_≡_, refl, _∙_}
+use mathlib.Core.Path.{_≡_, refl}
 use mathlib.Core.List.{List, [], _∷_}
 use mathlib.Core.Bool.{Bool, true, false}
 use native.Mathlib.Omega.{arith}
@@ -11,7 +11,7 @@ use Rattle.panel.specs.declared.Panel.{Panel}
 use Rattle.panel.specs.Timber.{rateOf}
 use Rattle.panel.specs.Lamellae.{Lamella, lamellae}
 use Rattle.charring.specs.Fires.{tenth, fastRun, startOf, failureOf, plainRate, clad, backFace, depthAtFailure}
-use Rattle.charring.specs.Fires.{firstEnd, linesFrom, bondLines, lineEnd}
+use Rattle.charring.specs.Fires.{linesFrom, bondLines, lineEnd, intactEnd, passedEnd, firstEnd}
 use Rattle.charring.specs.Stages.{Stretch, stretches, way, charred, fastPart, settledPart}
 
 -- Depths that are whole hundred-thousandths of a mm
@@ -50,10 +50,10 @@ exact-pick : (b : Bool) (x y : ℕ) → Exact x → Exact y → Exact (pick b x 
 exact-pick true x y h k = h
 exact-pick false x y h k = k
 
--- "kept exactly in hundred-thousandths of a mm": the first run's end
-pub exact-first : (p : Panel) → Exact (firstEnd p)
-unfolding firstEnd
-exact-first p =
+-- "kept exactly in hundred-thousandths of a mm": the first run's end if no line was passed
+exact-intact : (p : Panel) → Exact (intactEnd p)
+unfolding intactEnd
+exact-intact p =
     exact-pick (clad (p .cladding)) (pick (eqb (startOf p) (failureOf p)) (min (2 * plainRate p * failureOf p) fastRun) fastRun) 0
     (exact-pick (eqb (startOf p) (failureOf p)) (min (2 * plainRate p * failureOf p) fastRun) fastRun
     (exact-min (2 * plainRate p * failureOf p) fastRun (record { count = 2 * rateOf p * failureOf p; is = omega arith }) run) run)
@@ -86,6 +86,18 @@ pub exact-line-end : (line : ℕ) (lines : List ℕ) → Exact line → AllExact
 unfolding lineEnd
 exact-line-end line [] h none = exact-run line h
 exact-line-end line (next ∷ lines) h (both k ks) = exact-min (line + fastRun) next (exact-run line h) k
+
+exact-passed : (deep end : ℕ) (lines : List ℕ) → Exact end → AllExact lines → Exact (passedEnd deep end lines)
+unfolding passedEnd
+exact-passed deep end [] h none = h
+exact-passed deep end (line ∷ lines) h (both k ks) =
+    exact-passed deep (pick (ltb line deep) (lineEnd line lines) end) lines
+    (exact-pick (ltb line deep) (lineEnd line lines) end (exact-line-end line lines k ks) h) ks
+
+-- and if lines were
+pub exact-first : (p : Panel) → Exact (firstEnd p)
+unfolding firstEnd
+exact-first p = exact-passed (depthAtFailure p) (intactEnd p) (bondLines p) (exact-intact p) (exact-bond p)
 
 -- Stretches that follow each other from a depth to the back face, their ends exact
 

@@ -4,6 +4,7 @@ use mathlib.Core.Path.{_≡_, refl, sym, ap, _∙_}
 use mathlib.Core.Bool.{Bool, true, false}
 use mathlib.Core.List.{List, [], _∷_}
 use native.Mathlib.Omega.{arith}
+use native.Mathlib.Decide.{decLt}
 use native.Mathlib.Nat.{add-assoc}
 use native.Mathlib.Numerals.{add-one}
 use borrow.Author.Tests.{le-ltb, leb-true, leb-false, lt-ltb}
@@ -17,7 +18,7 @@ use Rattle.charring.specs.declared.Fire.{Fire}
 use Rattle.charring.specs.declared.Place.{Place}
 use Rattle.charring.specs.Fires.{tenth, fastRun, backFace, linesFrom, bondLines, lineEnd}
 use Rattle.charring.specs.Stages.{Stretch, stretches, way, charred, fastPart, settledPart}
-use Rattle.charring.specs.Fits.{FireFits, FireOf, FireBounds, PlaceBounds, Crossed, Passed, stretchTo, gain}
+use Rattle.charring.specs.Fits.{FireFits, FireOf, FireBounds, PlaceBounds, Crossed, Passed, LineEnd, stretchTo, gain}
 
 -- the lines that matter, of lamellae that begin at `top`
 abbrev pub linesIf : Bool → ℕ → List Lamella → List ℕ
@@ -119,6 +120,26 @@ no-line p i line h = ap (linesIf (eqb (p .bond) 1) line) (last-at p i h) ∙ go 
     go : (falls : Bool) → linesIf falls line (lamellaAt p i ∷ []) ≡ []
     go true = refl
     go false = refl
+
+-- the line below lamella i, where the bond falls
+pub line-here : (p : Panel) (i line next : ℕ) → i + 1 < p .count → next ≡ line + 100000000 * getD (p .thicknesses) i 0 → (b : Bool) → b ≡ true
+    → linesIf b line (drop i (lamellae p)) ≡ next ∷ linesIf b next (drop (i + 1) (lamellae p))
+unfolding linesFrom
+line-here p i line next k e b t =
+    rw (add-one i, t)
+    (ap (linesFrom line) (inner-at p i k)
+    ∙ ap (λ (y : ℕ). y ∷ linesFrom y (lamellaAt p (suc i) ∷ drop (suc (suc i)) (lamellae p))) (sym e)
+    ∙ ap (λ (ls : List Lamella). next ∷ linesFrom next ls) (sym (rest-at p (suc i) (omega arith))))
+
+-- where the run that starts there ends
+pub end-here : (p : Panel) (i next r : ℕ) → i < p .count → LineEnd next (p .thicknesses) i (p .count) r → (b : Bool) → b ≡ true
+    → r ≡ lineEnd next (linesIf b next (drop i (lamellae p)))
+unfolding linesFrom lineEnd
+end-here p i next r k h b t = rw t (go (decLt (i + 1) (p .count)))
+  where
+    go : Dec (i + 1 < p .count) → r ≡ lineEnd next (linesFrom next (drop i (lamellae p)))
+    go (yes y) = h .inner y ∙ ap (λ (ls : List Lamella). lineEnd next (linesFrom next ls)) (sym (inner-at p i y))
+    go (no y) = h .last (omega arith) ∙ ap (λ (ls : List Lamella). lineEnd next (linesFrom next ls)) (sym (last-at p i (omega arith)))
 
 -- the line below lamella i, whose top is at `line`
 pub next-ends : (p : Panel) (i : ℕ) {line next : ℕ} → line ≡ tenth * thickness (lamellaeOf (p .directions) (p .thicknesses) i)

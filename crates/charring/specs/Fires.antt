@@ -3,7 +3,7 @@
 use Prim.Native.Nat.{ℕ, _+_, _-_, _*_, min}
 use mathlib.Core.List.{List, [], _∷_}
 use mathlib.Core.Bool.{Bool, true, false}
-use lib.Dec.{eqb}
+use lib.Dec.{eqb, ltb}
 use Rattle.numbers.specs.Choice.{pick}
 use Rattle.panel.specs.declared.Cladding.{Cladding}
 use Rattle.panel.specs.declared.Cladding.the-variants.{Unclad, One, Two}
@@ -70,13 +70,23 @@ linesFrom top (l ∷ m ∷ ls) = (top + tenth * l .thickness) ∷ linesFrom (top
 unfoldable pub bondLines : Panel → List ℕ
 bondLines p = elim (eqb (p .bond) 1) [ true ↦ linesFrom 0 (lamellae p) | false ↦ [] ]
 
--- a run that starts at a line "ends 25 mm past that line or at the next line"
+-- "25 mm past that line or at the next line", whichever is nearer; the lines are those below it
 unfoldable pub lineEnd : ℕ → List ℕ → ℕ
 lineEnd line [] = line + fastRun
 lineEnd line (next ∷ lines) = min (line + fastRun) next
 
--- where the first run behind boards ends: "With t_f = t_ch this ends at 2·t_f or at 25 mm of char, whichever comes earlier. With
--- t_ch < t_f it ends at 25 mm of char .. An unclad panel starts at β."
-unfoldable pub firstEnd : Panel → ℕ
-firstEnd p =
+-- where the first run, at t_f, ends if no line was passed before: "With t_f = t_ch this ends at 2·t_f or at 25 mm of char, whichever
+-- comes earlier. With t_ch < t_f it ends at 25 mm of char .. An unclad panel starts at β."
+unfoldable pub intactEnd : Panel → ℕ
+intactEnd p =
     pick (clad (p .cladding)) (pick (eqb (startOf p) (failureOf p)) (min (2 * plainRate p * failureOf p) fastRun) fastRun) 0
+
+-- document 02, 6/14: "if lines were passed before t_f, the fast run at t_f now ends .. 25 mm past the deepest such line or at the next
+-- line, whichever is nearer": the last of the lines that is short of `deep`, the depth at t_f, puts its end in place of `end`
+unfoldable pub passedEnd : ℕ → ℕ → List ℕ → ℕ
+passedEnd deep end [] = end
+passedEnd deep end (line ∷ lines) = passedEnd deep (pick (ltb line deep) (lineEnd line lines) end) lines
+
+-- where the first run ends: "Where no line was passed the former rule holds."
+unfoldable pub firstEnd : Panel → ℕ
+firstEnd p = passedEnd (depthAtFailure p) (intactEnd p) (bondLines p)

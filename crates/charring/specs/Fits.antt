@@ -48,7 +48,8 @@ pub record FireBounds (f : Fire) : Type 0 where
   pub slow : f .slow ≤ 1000000
   pub plain : f .plain ≤ 1000000
   pub depth : f .depth ≤ 360000000000
-  pub end : f .end ≤ 25000000000
+  -- 25 mm past the depth at t_f
+  pub end : f .end ≤ 385000000000
   pub back : f .back ≤ 400000000000
   pub least : 20000 ≤ f .full
   pub full : f .full ≤ 112000
@@ -96,7 +97,7 @@ pub record EffectiveOf (char time q full back r : ℕ) : Type 0 where
   pub within : r ≤ 2 * q * full * back
   pub most : r ≤ 6000000000000000000
 
--- where a run that starts at a line ends: the next line is where lamella `at`, if it is not the last, ends
+-- 25 mm past a line or at the next line, which is where lamella `at`, if it is not the last, ends
 pub record LineEnd (line : ℕ) (thicknesses : List ℕ) (at count r : ℕ) : Type 0 where
   pub inner : at + 1 < count → r ≡ min (line + fastRun) (line + tenth * getD thicknesses at 0)
   pub last : count ≤ at + 1 → r ≡ line + fastRun

@@ -23,18 +23,22 @@ phaseOn (s ∷ ss) x q =
           ]
     ]
 
--- the phase at n/q minutes; "a panel charred through is settled"
-unfoldable pub phaseAt : Panel → ℕ → ℕ → Phase
-phaseAt p n q =
-    elim (leb (2 * q * backFace p) (charAt p n q)) [
+-- the phase at n/q minutes, by a char depth, a back face and a way from t_f on; "a panel charred through is settled"
+abbrev pub phaseFrom : Panel → ℕ → ℕ → List Stretch → ℕ → ℕ → Phase
+phaseFrom p char back ss n q =
+    elim (leb (2 * q * back) char) as (λ _. Phase) [
       | true ↦ Settled
       | false ↦
-          elim (ltb (1000 * n) (q * startOf p)) [
+          elim (ltb (1000 * n) (q * startOf p)) as (λ _. Phase) [
             | true ↦ Untouched
             | false ↦
-                elim (ltb (1000 * n) (q * failureOf p)) [
+                elim (ltb (1000 * n) (q * failureOf p)) as (λ _. Phase) [
                   | true ↦ UnderCladding
-                  | false ↦ phaseOn (way p) (2 * plainRate p * (1000 * n - q * failureOf p)) q
+                  | false ↦ phaseOn ss (2 * plainRate p * (1000 * n - q * failureOf p)) q
                 ]
           ]
     ]
+
+-- by the panel's own
+unfoldable pub phaseAt : Panel → ℕ → ℕ → Phase
+phaseAt p n q = phaseFrom p (charAt p n q) (backFace p) (way p) n q

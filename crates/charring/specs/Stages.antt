@@ -22,9 +22,13 @@ stretches from end (line ∷ lines) back =
       | false ↦ record { from = from; end = end; to = line } ∷ stretches line (lineEnd line lines) lines back
     ]
 
--- the way of a panel from t_f on; "never starts if 25 mm is reached by t_f": then the end is not deeper than the start
+-- the way of a panel from t_f on with a first run up to `end`; it "never starts if 25 mm is reached by t_f", or whatever its end is: then the
+-- end is not deeper than the start
+abbrev pub wayTo : Panel → ℕ → List Stretch
+wayTo p end = stretches (depthAtFailure p) end (bondLines p) (backFace p)
+
 unfoldable pub way : Panel → List Stretch
-way p = stretches (depthAtFailure p) (firstEnd p) (bondLines p) (backFace p)
+way p = wayTo p (firstEnd p)
 
 -- the fast part and the settled part of a stretch
 abbrev pub fastPart : Stretch → ℕ

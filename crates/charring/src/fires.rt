@@ -13,11 +13,11 @@ use panel::boards::charring_start;
 use panel::boards::type_f;
 use panel::timber::rate_of;
 ghost use mathlib.Core.Path.{_≡_};
-ghost use Prim.Native.Nat.{_-_, _*_, _≤_, min};
+ghost use Prim.Native.Nat.{_-_, _*_, _≤_, _<_, min};
 ghost use lib.Dec.{eqb};
 ghost use Rattle.numbers.specs.Choice.{pick};
-ghost use Rattle.charring.specs.Fires.{fastRun, startOf, failureOf, k2, clad};
-ghost use Rattle.charring.specs.Fits.{FireFits, FireOf, FireBounds};
+ghost use Rattle.charring.specs.Fires.{fastRun, startOf, failureOf, k2, clad, bondLines, passedEnd};
+ghost use Rattle.charring.specs.Fits.{FireFits, FireOf, FireBounds, LineEnd};
 
 fn k2_behind(b: Board) -> u64
     ensures { λ r. ⌜ (r ≡ 10000 - 18 * b .thickness) × (r ≤ 10000) ⌝ }
@@ -75,12 +75,44 @@ fn run_of(rate: u64, time: u64) -> u64
     rate * time
 }
 
-fn first_end(behind: bool, start: u64, failure: u64, plain: u64) -> u64
+fn intact_end(behind: bool, start: u64, failure: u64, plain: u64) -> u64
     requires { ⌜ (plain ≤ 1000000) × (failure ≤ 360000) ⌝ }
     ensures { λ r. ⌜ r ≡ pick behind (pick (eqb start failure) (min (2 * plain * failure) fastRun) fastRun) 0 ⌝ }
 {
     let early = lesser(2 * run_of(plain, failure), 25000000000);
     pick(behind, pick(start == failure, early, 25000000000), 0)
+}
+
+// 25 mm past a line or at the next line, where lamella `at` ends.
+pub(crate) fn line_end(line: u64, thicknesses: [u16; 9], at: usize, count: usize) -> u64
+    requires { ⌜ (line ≤ 400000000000) × ((at < 9) × (count ≤ 9)) ⌝ }
+    ensures { λ r. ⌜ LineEnd line thicknesses at count r ⌝ }
+{
+    let past = line + 25000000000;
+    if at + 1 < count {
+        lesser(past, line + 100000000 * widen(thicknesses[at]))
+    } else {
+        past
+    }
+}
+
+// Of the lines that are passed at a depth, the deepest sets the end.
+fn passed_end(p: Panel, deep: u64, intact: u64) -> u64
+    requires { ⌜ FireFits p ⌝ }
+    ensures { λ r. ⌜ r ≡ passedEnd deep intact (bondLines p) ⌝ }
+{
+    let thicknesses = p.thicknesses;
+    let mut end = intact;
+    let mut line: u64 = 0;
+    let mut i = 0;
+    while i + 1 < p.count {
+        line += 100000000 * widen(thicknesses[i]);
+        i += 1;
+        if (p.bond == 1) & (line < deep) {
+            end = line_end(line, thicknesses, i, p.count);
+        }
+    }
+    end
 }
 
 // No open call: the limits of lines 3, 4, 8, 9, 10 and 11 must hold.
@@ -94,13 +126,15 @@ pub fn fire_of(p: Panel) -> Fire
     let failure = failure_of(p, start);
     let rate = rate_of(p);
     let slow = slow_rate(k2_of(c), rate);
+    let depth = run_of(slow, less(failure, start));
+    let intact = intact_end(is_clad(c), start, failure, 10000 * rate);
     Fire {
         start: start,
         failure: failure,
         slow: slow,
         plain: 10000 * rate,
-        depth: run_of(slow, less(failure, start)),
-        end: first_end(is_clad(c), start, failure, 10000 * rate),
+        depth: depth,
+        end: passed_end(p, depth, intact),
         back: 100000000 * (total_thickness(thicknesses, p.count) as u64),
         full: greater(20000, start),
     }

@@ -4,31 +4,19 @@ use crate::Phase;
 use crate::depths::char_of;
 use crate::depths::twice_run;
 use crate::fires::fire_of;
+use crate::fires::line_end;
 use crate::walk::fast_part;
 use crate::walk::settled_part;
 use numbers::words64::less;
-use numbers::words64::lesser;
 use numbers::words64::widen;
 use panel::Panel;
 ghost use mathlib.Core.Path.{_≡_};
-ghost use Prim.Native.Nat.{_≤_, _<_};
+ghost use Prim.Native.Nat.{_≤_};
 ghost use lib.Dec.{ltb};
 ghost use Rattle.limits.specs.Causes.{lastMinute};
 ghost use Rattle.charring.specs.Stages.{way};
 ghost use Rattle.charring.specs.Phases.{phaseOn, phaseAt};
-ghost use Rattle.charring.specs.Fits.{FireFits, FireOf, FireBounds, LineEnd, phaseIn};
-
-fn line_end(line: u64, thicknesses: [u16; 9], at: usize, count: usize) -> u64
-    requires { ⌜ (line ≤ 400000000000) × ((at < 9) × (count ≤ 9)) ⌝ }
-    ensures { λ r. ⌜ LineEnd line thicknesses at count r ⌝ }
-{
-    let past = line + 25000000000;
-    if at + 1 < count {
-        lesser(past, line + 100000000 * widen(thicknesses[at]))
-    } else {
-        past
-    }
-}
+ghost use Rattle.charring.specs.Fits.{FireFits, FireOf, FireBounds, phaseIn};
 
 fn phase_in(left: u64, fast: u64, end: u64) -> Phase
     requires { ⌜ end ≤ 425000000000 ⌝ }

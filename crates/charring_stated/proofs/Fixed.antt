@@ -2,7 +2,6 @@
 -- and so are those of the definitions.
 use Prim.Native.Nat.{ℕ, zero, suc, _+_, _-_, _*_, _≤_, _<_, min}
 use mathlib.Core.Path.{_≡_, refl, sym, ap, _∙_}
-use mathlib.Core.Bool.{Bool, true, false}
 use mathlib.Core.Logic.{_⊎_, inl, inr}
 use native.Mathlib.Omega.{arith}
 use native.Mathlib.Decide.{decLe, decLt}
@@ -12,25 +11,15 @@ use Rattle.panel.specs.declared.Panel.{Panel}
 use Rattle.limits.specs.Refusals.{panelRefusal}
 use Rattle.charring.specs.declared.Phase.{Phase}
 use Rattle.charring.specs.declared.Phase.the-variants.{Fast, Settled}
-use Rattle.charring.specs.Fires.{startOf, failureOf, clad, plainRate, backFace, bondLines, lineEnd}
+use Rattle.charring.specs.Fires.{startOf, failureOf, plainRate, backFace, bondLines, lineEnd}
 use Rattle.charring.specs.Depths.{charAt}
 use Rattle.charring.specs.Phases.{phaseAt}
-use Rattle.charring_stated.specs.Charring.{Charring, IsFirstEnd, FastUpTo, NoLineAt}
+use Rattle.charring_stated.specs.Charring.{Charring, FastUpTo, NoLineAt}
 use Rattle.charring.proofs.Accepted.{fire-fits, rate-least}
 use Rattle.charring_stated.proofs.Lines.{lines-deeper, deeper-after, line-end-deeper}
+use Rattle.charring_stated.proofs.FirstEnds.{first-fixed}
 use Rattle.charring_stated.proofs.Legs.{NextMark, next-mark, LineAt, line-at, Course, fast, settled, course-rate, Leg, leg}
 use Rattle.charring_stated.proofs.Stated.{charring-stated}
-
--- where the first run ends is fixed
-first-fixed : (p : Panel) (a b : ℕ) → startOf p ≤ failureOf p → IsFirstEnd p a → IsFirstEnd p b → a ≡ b
-first-fixed p a b order h k = go (clad (p .cladding)) refl (decLt (startOf p) (failureOf p))
-  where
-    go : (t : Bool) → clad (p .cladding) ≡ t → Dec (startOf p < failureOf p) → a ≡ b
-    go false c d = h .unclad c ∙ sym (k .unclad c)
-    go true c (yes l) = h .later c l ∙ sym (k .later c l)
-    go true c (no l) =
-        let e : startOf p ≡ failureOf p = omega arith in
-        h .atOnce c e ∙ sym (k .atOnce c e)
 
 -- Equal times
 
@@ -197,8 +186,11 @@ module _
       let order = fire-fits p accepted .order in
       let begun : q * startOf p ≤ 1000 * n = omega (arith, mul-le-mul-left q order) in
       let same : depth₁ n q ≡ depth₂ n q = c₁ .under n q pos begun (omega arith) ∙ sym (c₂ .under n q pos begun (omega arith)) in
+      let begins : 1000 * startOf p ≤ 1000 * failureOf p = mul-le-mul-left 1000 order in
+      let deep : depth₁ (failureOf p) 1000 ≡ depth₂ (failureOf p) 1000 =
+      c₁ .under (failureOf p) 1000 (omega arith) begins (omega arith) ∙ sym (c₂ .under (failureOf p) 1000 (omega arith) begins (omega arith)) in
       comes-to n q pos (omega arith) same (λ short free. go (decLt (depth₁ n q) (2 * q * c₁ .end)) same short free
-      (first-fixed p (c₁ .end) (c₂ .end) order (c₁ .first) (c₂ .first)))
+      (first-fixed p (depth₁ (failureOf p) 1000) (c₁ .end) (c₂ .end) order (c₁ .first) (rw deep (c₂ .first))))
     where
       go :
           Dec (depth₁ n q < 2 * q * c₁ .end) → depth₁ n q ≡ depth₂ n q → depth₁ n q < 2 * q * backFace p → NoLineAt p (depth₁ n q) q

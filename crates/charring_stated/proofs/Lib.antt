@@ -6,9 +6,12 @@ pub mod PhaseOfDepth
 -- Accepted panels: their bond lines.
 pub mod Lines
 -- The definitions keep document 01's sentences.
+pub mod FirstEnds
 pub mod SameRun
 pub mod Growth
 pub mod Stated
+-- The first run, at t_f.
+pub mod FirstRun
 -- And nothing else does.
 pub mod Legs
 pub mod Fixed

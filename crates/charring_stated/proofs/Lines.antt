@@ -1,5 +1,5 @@
 -- The bond lines of a panel: where they are, and that in an accepted panel each is deeper than the one before and short of the back face.
-use Prim.Native.Nat.{ℕ, zero, suc, _+_, _*_, _<_}
+use Prim.Native.Nat.{ℕ, zero, suc, _+_, _*_, _≤_, _<_}
 use mathlib.Core.Path.{_≡_, refl, ap, _∙_, sym, subst}
 use mathlib.Core.List.{List, [], _∷_, _++_, List·Memᴰ}
 use mathlib.Core.List.{List·Memᴰ·head, List·Memᴰ·append-cases, List·Memᴰ·cases-cons, List·Memᴰ·not-nil, List·Memᴰ·eq-of-singleton}
@@ -162,3 +162,33 @@ pub line-end-deeper : {l back : ℕ} {ls : List ℕ} → Deeper l ls back → l 
 unfolding lineEnd
 line-end-deeper (face h) = omega arith
 line-end-deeper (next h d) = omega arith
+
+-- a line is short of the back face
+pub deeper-short : {top back : ℕ} {ls : List ℕ} → Deeper top ls back → (l : ℕ) → List·Memᴰ l ls → l < back
+deeper-short (face h) l m = absurd (List·Memᴰ·not-nil m)
+deeper-short {back = back} (next {l = k} {ls = ls} h d) l m = go (List·Memᴰ·cases-cons m) (deeper-short d l) (deeper-back d)
+  where
+    go : (l ≡ k) ⊎ List·Memᴰ l ls → (List·Memᴰ l ls → l < back) → k < back → l < back
+    go (inl e) later short = omega arith
+    go (inr m) later short = later m
+
+-- the lines above a line are shallower
+pub deeper-above :
+    {top back : ℕ} (above : List ℕ) (l : ℕ) (below : List ℕ) → Deeper top (above ++ (l ∷ below)) back → (m : ℕ) → List·Memᴰ m above → m < l
+deeper-above [] l below d m i = absurd (List·Memᴰ·not-nil i)
+deeper-above (a ∷ above) l below (next h d) m i =
+    go (List·Memᴰ·cases-cons i) (deeper-line d l (Memᴰ·append-right above (List·Memᴰ·head refl))) (deeper-above above l below d m)
+  where
+    go : (m ≡ a) ⊎ List·Memᴰ m above → a < l → (List·Memᴰ m above → m < l) → m < l
+    go (inl e) k later = omega arith
+    go (inr j) k later = later j
+
+-- a line's run ends no deeper than any line below it
+pub line-end-short : {l back : ℕ} {ls : List ℕ} → Deeper l ls back → (m : ℕ) → List·Memᴰ m ls → lineEnd l ls ≤ m
+unfolding lineEnd
+line-end-short (face h) m i = absurd (List·Memᴰ·not-nil i)
+line-end-short {l} (next {l = k} {ls = ls} h d) m i = go (List·Memᴰ·cases-cons i) (deeper-line d m)
+  where
+    go : (m ≡ k) ⊎ List·Memᴰ m ls → (List·Memᴰ m ls → k < m) → lineEnd l (k ∷ ls) ≤ m
+    go (inl e) later = omega arith
+    go (inr j) later = omega (arith, later j)

@@ -5,7 +5,6 @@ use mathlib.Core.List.{List, [], _∷_, _++_}
 use native.Mathlib.Omega.{arith}
 use native.Mathlib.Decide.{decLt}
 use native.Mathlib.Nat.{le-trans, mul-le-mul-left, lt-of-mul-lt-mul-left, le-of-mul-le-mul-left, mul-lt-mul-of-pos-left}
-use borrow.Author.Tests.{eq-eqb, ne-eqb}
 use Rattle.panel.specs.declared.Panel.{Panel}
 use Rattle.limits.specs.Refusals.{panelRefusal}
 use Rattle.charring.specs.declared.Phase.{Phase}
@@ -14,7 +13,7 @@ use Rattle.charring.specs.Fires.{startOf, failureOf, plainRate, slowRate, backF
 use Rattle.charring.specs.Stages.{stretches, way, charred}
 use Rattle.charring.specs.Depths.{underAt, afterAt, charAt}
 use Rattle.charring.specs.Phases.{phaseAt}
-use Rattle.charring_stated.specs.Charring.{Charring, IsFirstEnd, FastUpTo, NoLineWithin, NoLineUpTo, NoLineAt, Deeper}
+use Rattle.charring_stated.specs.Charring.{Charring, FastUpTo, NoLineWithin, NoLineUpTo, NoLineAt, Deeper}
 use Rattle.charring.proofs.Accepted.{fire-fits}
 use Rattle.charring.proofs.DepthLaws.{char-ramp, char-no-less}
 use Rattle.charring.proofs.DepthBounds.{char-within}
@@ -26,6 +25,7 @@ use Rattle.charring_stated.proofs.PhaseLaws.{after-none, under-part, no
 use Rattle.charring_stated.proofs.PhaseOfDepth.{inRun, run-fast, run-settled, phaseOfDepth, phase-of-depth}
 use Rattle.charring_stated.proofs.Lasting.{lasting, persists}
 use Rattle.charring_stated.proofs.Lines.{thick, lines-deeper, deeper-back, deeper-after}
+use Rattle.charring_stated.proofs.FirstEnds.{first-end}
 use Rattle.charring_stated.proofs.SameRun.{SameRun, same-run, still-fast, fast-over, still-settled, way-starts, way-line}
 use Rattle.charring_stated.proofs.Growth.{depthOn, fast-to, settled-to}
 
@@ -177,15 +177,6 @@ at-failure p n q order pos time short free =
     (λ l m e. free l m (deep ∙ ap (λ (a : ℕ). 2 * q * a) e))
     ∙ ap (λ (d : ℕ). inRun (firstEnd p) d q) (sym deep)
 
-first-end : (p : Panel) → IsFirstEnd p (firstEnd p)
-unfolding firstEnd
-first-end p =
-    record {
-      atOnce = λ c e. rw (c, eq-eqb (startOf p) (failureOf p) e);
-      later = λ c l. rw (c, ne-eqb (startOf p) (failureOf p) (λ e. let z : ⊥ = omega arith in z));
-      unclad = λ c. rw c;
-    }
-
 exact-after : (above : List ℕ) (l : ℕ) (below : List ℕ) → AllExact (above ++ (l ∷ below)) → Exact (lineEnd l below)
 exact-after [] l below (both x xs) = exact-line-end l below x xs
 exact-after (a ∷ above) l below (both x xs) = exact-after above l below xs
@@ -237,7 +228,7 @@ charring-stated p e =
       before = λ n q _ h. no-char p n q order h;
       under = λ n q _ h k. slow-depth p n q h k;
       end = firstEnd p;
-      first = first-end p;
+      first = first-end p e;
       starts = λ n q pos time short free h.
           up-to (phaseAt p n q) (firstEnd p) (exact-first p)
           (at-failure p n q order pos time short free ∙ run-fast (firstEnd p) (charAt p n q) q h);

@@ -17,14 +17,33 @@ pub record FastUpTo (phase : Phase) (end : ℕ) : Type 0 where
   pub is : phase ≡ Fast named
   pub exact : 10000 * named ≡ end
 
--- where the first run behind boards ends
-pub record IsFirstEnd (p : Panel) (end : ℕ) : Type 0 where
+-- where the first run, at t_f, ends if no bond line was passed before
+pub record IsIntactEnd (p : Panel) (end : ℕ) : Type 0 where
   -- "With t_f = t_ch this ends at 2·t_f or at 25 mm of char, whichever comes earlier": by 2·t_f, 2β has charred 2β·t_f
   pub atOnce : clad (p .cladding) ≡ true → startOf p ≡ failureOf p → end ≡ min (2 * plainRate p * failureOf p) fastRun
   -- "With t_ch < t_f it ends at 25 mm of char"
   pub later : clad (p .cladding) ≡ true → startOf p < failureOf p → end ≡ fastRun
   -- "An unclad panel starts at β."
   pub unclad : clad (p .cladding) ≡ false → end ≡ 0
+
+-- no line of a list was passed before t_f, where the char depth at t_f is `deep` half picometres times 1,000
+abbrev pub NonePassed : ℕ → List ℕ → Type 0
+NonePassed deep ls = (l : ℕ) → List·Memᴰ l ls → deep ≤ 2000 * l
+
+-- of the lines of a list l is the deepest passed before t_f, and `below` are those below it
+pub record DeepestPassed (deep : ℕ) (ls : List ℕ) (l : ℕ) (below : List ℕ) : Type 0 where
+  pub above : List ℕ
+  pub split : ls ≡ above ++ (l ∷ below)
+  pub passed : 2000 * l < deep
+  pub rest : NonePassed deep below
+
+-- where the first run ends: document 02, 6/14
+pub record IsFirstEnd (p : Panel) (deep end : ℕ) : Type 0 where
+  -- "Where no line was passed the former rule holds."
+  pub intact : NonePassed deep (bondLines p) → IsIntactEnd p end
+  -- "if lines were passed before t_f, the fast run at t_f now ends, and names its end, 25 mm past the deepest such line or at the next line,
+  -- whichever is nearer"
+  pub deepest : (l : ℕ) (below : List ℕ) → DeepestPassed deep (bondLines p) l below → end ≡ lineEnd l below
 
 -- the bond lines that matter (proofs Lines): where the bond falls, below the first lamellae of a panel with more. "Bond holds: lines don't
 -- matter."
@@ -61,10 +80,11 @@ pub record Charring (p : Panel) (depth : ℕ → ℕ → ℕ) (phase : ℕ → �
   pub under :
       (n q : ℕ) → 0 < q → q * startOf p ≤ 1000 * n → 1000 * n ≤ q * failureOf p
       → depth n q ≡ min (2 * slowRate p * (1000 * n - q * startOf p)) (2 * q * backFace p)
-  -- "A clad panel then chars at 2β .. and never starts if 25 mm is reached by t_f. Then β. An unclad panel starts at β.": at t_f, short of
-  -- the back face and at no line, the first run starts where its end is not reached
+  -- "A clad panel then chars at 2β .. and never starts if 25 mm is reached by t_f", and behind a passed line "doesn't start if that depth is
+  -- already passed". "Then β. An unclad panel starts at β.": at t_f, short of the back face and at no line, the first run starts where its
+  -- end is not reached
   pub end : ℕ
-  pub first : IsFirstEnd p end
+  pub first : IsFirstEnd p (depth (failureOf p) 1000) end
   pub starts :
       (n q : ℕ) → 0 < q → 1000 * n ≡ q * failureOf p → depth n q < 2 * q * backFace p → NoLineAt p (depth n q) q → depth n q < 2 * q * end
       → FastUpTo (phase n q) end

@@ -1,1 +1,2 @@
 pub mod Charring
+pub mod FirstRun

@@ -1,4 +1,4 @@
--- `charring::fires::first_end` meets its contract: the choices are those of the definition. Assumes nothing.
+-- `charring::fires::intact_end` meets its contract: the choices are those of the definition. Assumes nothing.
 use Prim.Native.Nat.{ℕ, _*_, min}
 use Rattle.charring.specs.Fires.{fastRun}
 use Rattle.numbers.specs.Choice.{pick}
@@ -6,8 +6,8 @@ use borrow.Author.Needs.{needs}
 use lib.Dec.{eqb}
 use mathlib.Core.Path.{ap, _∙_, _≡_}
 use native.Mathlib.Omega.{arith}
-use Rattle.charring.proofs.fires.first_end.Statement.{statement}
-use Rattle.charring.proofs.fires.first_end.Tie as tie
+use Rattle.charring.proofs.fires.intact_end.Statement.{statement}
+use Rattle.charring.proofs.fires.intact_end.Tie as tie
 
 returns : tie.Need-returns
 returns c =
@@ -19,7 +19,7 @@ returns c =
     (c .before .pick .ensures
     ∙ ap (λ (k : ℕ). pick (eqb (a .start) (a .failure)) k fastRun) (c2 .lesser .ensures .0 ∙ ap (λ (k : ℕ). min k fastRun) run))
 
-pub first-end-spec : {M : Type 1} → statement M
-first-end-spec =
+pub intact-end-spec : {M : Type 1} → statement M
+intact-end-spec =
     tie.close
     (tie.spec (λ c κs. search needs) (λ c. search needs) (λ c κs. search needs) (λ c κs. search needs) (λ c κs. search needs) returns)
