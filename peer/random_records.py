@@ -171,10 +171,9 @@ def failing_past_lines(rng):
     """A panel of `met_at_failure` that fails within two hours after its boards."""
     while True:
         panel = met_at_failure(rng)
-        minute = min(360, panel.failure_time // 1_000 + rng.randint(0, 120))
-        moment = greatest_moment(panel, peer.effective_tenths(panel, minute)) + rng.choice([0, 0, 1])
-        if 1 < moment <= min(1_000_000, greatest_moment(panel)):
-            return panel._replace(moment=moment)
+        failing = failing_at(rng, panel, min(360, panel.failure_time // 1_000 + rng.randint(0, 120)))
+        if failing:
+            return failing
 
 
 def soon_failing(rng, panel):
@@ -185,14 +184,20 @@ def soon_failing(rng, panel):
     return panel._replace(failure_time=start + rng.choice([0, 1, rng.randint(0, 60_000), 1_000 * rng.randint(1, 60)]))
 
 
+def failing_at(rng, panel, minute):
+    """The panel with the moment that the depth of a minute carries just so, or one more; None where depth 0 does not carry that."""
+    moment = greatest_moment(panel, peer.effective_tenths(panel, minute)) + rng.choice([0, 0, 1])
+    return panel._replace(moment=moment) if 1 < moment <= min(1_000_000, greatest_moment(panel)) else None
+
+
 def failing_about(rng):
-    """A panel that fails about a minute from 0 to 360: it carries just as much as the depth of that minute does, or one more."""
+    """A panel that fails about a minute from 0 to 360."""
     while True:
         minute = end_or_between(rng, 0, 360) if rng.random() < 0.2 else rng.randint(0, 360)
         panel = soon_failing(rng, random_panel(rng)) if rng.random() < 0.5 else random_panel(rng)
-        moment = greatest_moment(panel, peer.effective_tenths(panel, minute)) + rng.choice([0, 0, 1])
-        if 1 < moment <= min(1_000_000, greatest_moment(panel)):
-            return panel._replace(moment=moment)
+        failing = failing_at(rng, panel, minute)
+        if failing:
+            return failing
 
 
 def recovering(rng):

@@ -1,5 +1,5 @@
 -- Where the first run ends, by the lines passed before t_f: the definition keeps its rule, and the rule fixes it.
-use Prim.Native.Nat.{ℕ, _+_, _*_, _≤_, _<_, min}
+use Prim.Native.Nat.{ℕ, _*_, _≤_, _<_, min}
 use mathlib.Core.Path.{_≡_, refl, sym, ap, _∙_}
 use mathlib.Core.List.{List, [], _∷_, List·Memᴰ, List·Memᴰ·tail, List·Memᴰ·cases-cons, List·Memᴰ·not-nil, Memᴰ·append-right}
 use mathlib.Core.Logic.{_⊎_, inl, inr}
@@ -10,24 +10,19 @@ use borrow.Author.Tests.{eq-eqb, ne-eqb}
 use Rattle.panel.specs.declared.Panel.{Panel}
 use Rattle.limits.specs.Refusals.{panelRefusal}
 use Rattle.charring.specs.Fires.{startOf, failureOf, clad, backFace, depthAtFailure, bondLines, lineEnd, intactEnd, passedEnd, firstEnd}
-use Rattle.charring.specs.Depths.{underAt, afterAt, charAt}
+use Rattle.charring.specs.Depths.{charAt}
 use Rattle.charring_stated.specs.Charring.{IsIntactEnd, IsFirstEnd, NonePassed, DeepestPassed}
 use Rattle.charring.proofs.DepthParts.{under-full}
 use Rattle.charring.proofs.FirstRun.{none-passed, deepest-passed}
-use Rattle.charring_stated.proofs.PhaseLaws.{after-none}
+use Rattle.charring_stated.proofs.PhaseLaws.{char-until-failure}
 use Rattle.charring_stated.proofs.Lines.{lines-deeper, deeper-short}
 
 -- The char depth at t_f
 
 pub char-at-failure :
     (p : Panel) (n q : ℕ) → 1000 * n ≡ q * failureOf p → charAt p n q ≡ min (2 * q * depthAtFailure p) (2 * q * backFace p)
-unfolding charAt
 char-at-failure p n q time =
-    ap (λ (a : ℕ). min a (2 * q * backFace p))
-    (sum (underAt p n q) (afterAt p n q) (after-none p n q (omega arith)) ∙ under-full p n q (omega arith))
-  where
-    sum : (a b : ℕ) → b ≡ 0 → a + b ≡ a
-    sum a b e = omega arith
+    char-until-failure p n q (omega arith) ∙ ap (λ (a : ℕ). min a (2 * q * backFace p)) (under-full p n q (omega arith))
 
 module _ (p : Panel) (accepted : panelRefusal p ≡ 0) where
   abbrev pub deepAtFailure : ℕ

@@ -180,15 +180,17 @@ module _
       go (over h) later = stays n m q pos (s .depths) h le
       go (on rate end f c is₁ is₂ short) later = course k later a n q pos s low far rate end f c is₁ is₂ short m le
 
+  -- from t_ch to t_f
+  same-under : (n q : ℕ) → 0 < q → q * startOf p ≤ 1000 * n → 1000 * n ≤ q * failureOf p → depth₁ n q ≡ depth₂ n q
+  same-under n q pos begun early = c₁ .under n q pos begun early ∙ sym (c₂ .under n q pos begun early)
+
   -- at t_f
   at-failure : (n q : ℕ) → 0 < q → 1000 * n ≡ q * failureOf p → State n q
   at-failure n q pos time =
       let order = fire-fits p accepted .order in
-      let begun : q * startOf p ≤ 1000 * n = omega (arith, mul-le-mul-left q order) in
-      let same : depth₁ n q ≡ depth₂ n q = c₁ .under n q pos begun (omega arith) ∙ sym (c₂ .under n q pos begun (omega arith)) in
-      let begins : 1000 * startOf p ≤ 1000 * failureOf p = mul-le-mul-left 1000 order in
+      let same : depth₁ n q ≡ depth₂ n q = same-under n q pos (omega (arith, mul-le-mul-left q order)) (omega arith) in
       let deep : depth₁ (failureOf p) 1000 ≡ depth₂ (failureOf p) 1000 =
-      c₁ .under (failureOf p) 1000 (omega arith) begins (omega arith) ∙ sym (c₂ .under (failureOf p) 1000 (omega arith) begins (omega arith)) in
+      same-under (failureOf p) 1000 (omega arith) (mul-le-mul-left 1000 order) (omega arith) in
       comes-to n q pos (omega arith) same (λ short free. go (decLt (depth₁ n q) (2 * q * c₁ .end)) same short free
       (first-fixed p (depth₁ (failureOf p) 1000) (c₁ .end) (c₂ .end) order (c₁ .first) (rw deep (c₂ .first))))
     where
@@ -216,7 +218,7 @@ module _
           }
       go (no h) (yes k) =
           let begun : q * startOf p ≤ 1000 * n = omega arith in
-          let same : depth₁ n q ≡ depth₂ n q = c₁ .under n q pos begun (omega arith) ∙ sym (c₂ .under n q pos begun (omega arith)) in
+          let same : depth₁ n q ≡ depth₂ n q = same-under n q pos begun (omega arith) in
           record { depths = same; phases = by-back (decLt (depth₁ n q) (2 * q * backFace p)) begun same }
         where
           by-back :

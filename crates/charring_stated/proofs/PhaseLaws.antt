@@ -2,7 +2,7 @@
 use Prim.Native.Nat.{ℕ, zero, suc, _+_, _-_, _*_, _≤_, _<_, min}
 use mathlib.Core.Path.{_≡_, ap}
 use native.Mathlib.Omega.{arith}
-use native.Mathlib.Nat.{le-trans, mul-sub, mul-add, mul-le-mul-left, mul-pos, min-le-left}
+use native.Mathlib.Nat.{le-trans, mul-sub, mul-add, mul-le-mul-left, mul-pos}
 use Rattle.panel.specs.declared.Panel.{Panel}
 use Rattle.panel.specs.Lamellae.{lamellae, thickness}
 use Rattle.charring.specs.declared.Phase.{Phase}
@@ -15,12 +15,8 @@ use Rattle.charring.proofs.PhaseCases.{at-untouched}
 use Rattle.charring.proofs.WayLaws.{charred-none}
 use Rattle.charring.proofs.DepthParts.{char-parts, under-full}
 
-char-most : (p : Panel) (n q : ℕ) → charAt p n q ≤ underAt p n q + afterAt p n q
-unfolding charAt
-char-most p n q = min-le-left (underAt p n q + afterAt p n q) (2 * q * backFace p)
-
 -- before t_f nothing has gone on after it
-pub after-none : (p : Panel) (n q : ℕ) → 1000 * n ≤ q * failureOf p → afterAt p n q ≡ 0
+after-none : (p : Panel) (n q : ℕ) → 1000 * n ≤ q * failureOf p → afterAt p n q ≡ 0
 after-none p n q h =
     let e : 1000 * n - q * failureOf p ≡ 0 = none (1000 * n) (q * failureOf p) h in
     let z : 2 * plainRate p * 0 ≡ 0 = omega arith in
@@ -50,11 +46,20 @@ under-part p n q h k =
     numbers : (a b c : ℕ) → a ≤ c → min (a - b) (c - b) ≡ a - b
     numbers a b c h = omega arith
 
+-- up to t_f the depth is what has charred under the boards
+pub char-until-failure : (p : Panel) (n q : ℕ) → 1000 * n ≤ q * failureOf p → charAt p n q ≡ min (underAt p n q) (2 * q * backFace p)
+unfolding charAt
+char-until-failure p n q h =
+    ap (λ (a : ℕ). min a (2 * q * backFace p)) (sum (underAt p n q) (afterAt p n q) (after-none p n q h))
+  where
+    sum : (a b : ℕ) → b ≡ 0 → a + b ≡ a
+    sum a b e = omega arith
+
 -- "Before t_ch no charring."
 pub no-char : (p : Panel) (n q : ℕ) → startOf p ≤ failureOf p → 1000 * n ≤ q * startOf p → charAt p n q ≡ 0
 no-char p n q order h =
     let later : q * startOf p ≤ q * failureOf p = mul-le-mul-left q order in
-    omega (arith, char-most p n q, under-none p n q h, after-none p n q (le-trans h later))
+    omega (arith, char-until-failure p n q (le-trans h later), under-none p n q h)
 
 -- and a panel with any thickness is untouched before t_ch
 pub untouched-before :

@@ -21,11 +21,11 @@ use Rattle.charring.proofs.PhaseCases.{Where, through, untouched, under, onward
 use Rattle.charring.proofs.PhaseCases.{fast-not-settled, untouched-not-settled, untouched-not-fast, under-not-settled, under-not-fast}
 use Rattle.charring.proofs.WayLaws.{Exact, exact-whole, AllExact, both, exact-first, exact-bond, exact-line-end}
 use Rattle.charring.proofs.DepthParts.{char-parts, under-full}
-use Rattle.charring_stated.proofs.PhaseLaws.{after-none, under-part, no-char, untouched-before, base-rises, base-step, way-step}
+use Rattle.charring_stated.proofs.PhaseLaws.{char-until-failure, under-part, no-char, untouched-before, base-rises, base-step, way-step}
 use Rattle.charring_stated.proofs.PhaseOfDepth.{inRun, run-fast, run-settled, phaseOfDepth, phase-of-depth}
 use Rattle.charring_stated.proofs.Lasting.{lasting, persists}
 use Rattle.charring_stated.proofs.Lines.{thick, lines-deeper, deeper-back, deeper-after}
-use Rattle.charring_stated.proofs.FirstEnds.{first-end}
+use Rattle.charring_stated.proofs.FirstEnds.{char-at-failure, first-end}
 use Rattle.charring_stated.proofs.SameRun.{SameRun, same-run, still-fast, fast-over, still-settled, way-starts, way-line}
 use Rattle.charring_stated.proofs.Growth.{depthOn, fast-to, settled-to}
 
@@ -169,7 +169,7 @@ unfolding way
 at-failure p n q order pos time short free =
     let begun : q * startOf p ≤ q * failureOf p = mul-le-mul-left q order in
     let o : OnWay p n q = record { short = short; begun = omega arith; past = omega arith } in
-    let deep : charAt p n q ≡ 2 * q * depthAtFailure p = omega (arith, deep-on p n q o, after-none p n q (omega arith)) in
+    let deep : charAt p n q ≡ 2 * q * depthAtFailure p = omega (arith, char-at-failure p n q time) in
     by-depth p n q o
     ∙ ap (λ (d : ℕ). phaseOfDepth (way p) d q) deep
     ∙ way-starts (depthAtFailure p) (firstEnd p) (bondLines p) (backFace p) q pos
@@ -205,12 +205,7 @@ at-line p e n q pos past above l below split deep =
 slow-depth :
     (p : Panel) (n q : ℕ) → q * startOf p ≤ 1000 * n → 1000 * n ≤ q * failureOf p
     → charAt p n q ≡ min (2 * slowRate p * (1000 * n - q * startOf p)) (2 * q * backFace p)
-unfolding charAt
-slow-depth p n q h k =
-    ap (λ (a : ℕ). min a (2 * q * backFace p)) (sum (underAt p n q) (afterAt p n q) (after-none p n q k) ∙ under-part p n q h k)
-  where
-    sum : (a b : ℕ) → b ≡ 0 → a + b ≡ a
-    sum a b e = omega arith
+slow-depth p n q h k = char-until-failure p n q k ∙ ap (λ (a : ℕ). min a (2 * q * backFace p)) (under-part p n q h k)
 
 -- a time is not later than itself: a phase lasts as far
 same-phase : (p : Panel) (n q r s : ℕ) → 0 < q → 0 < s → n * s ≡ r * q → phaseAt p n q ≡ phaseAt p r s
