@@ -1,4 +1,4 @@
-/* The fire card for programs in C: the two functions of the proved crate card_c (target/staticlib/libcard_c.a, x86-64 Linux).
+/* The fire card for programs in C: the functions of the proved crate card_c (target/staticlib/libcard_c.a, x86-64 Linux).
 
    A record is that of docs/SPECIFICATION.md, part 2: big-endian, 21 to 53 bytes in version 1, 22 to 54 in version 2, which has a byte for
    the face that the fire is on after the version: 0 the first, 1 the last, 2 each alone. Version 1 means the first. Lengths in a record
@@ -6,8 +6,8 @@
    failure time in thousandths of a minute. There is no board, one or two of gypsum (types A, F and H), or one of OSB (O) or particle
    board (P).
 
-   Any bytes may be given, and any space lent; both functions always return. The caller must see to what C cannot say:
-   - both pointers point to as many bytes as are named, and are not null, even where that is none;
+   Any bytes may be given, and any space lent; the functions always return. The caller must see to what C cannot say:
+   - a pointer points to as many bytes as are named, and is not null, even where that is none;
    - `out` shares no byte with `bytes`, and nothing else writes either before the call returns.
    The functions keep nothing, allocate nothing and call only memcpy. Two threads may call them at once on different spaces. */
 #ifndef YURBANTSE_H
@@ -42,6 +42,18 @@ int32_t yurbantse_card(const uint8_t *bytes, size_t bytes_length, uint8_t *out, 
 /* Writes the line `REFUSED n` with its line feed into `out` and answers its bytes, 10 to 12; or answers -14 where `out` is shorter than
    that, and `out` is as it was. n is the number of a refusal without its sign. */
 int32_t yurbantse_refusal(uint8_t n, uint8_t *out, size_t out_length);
+
+/* How much may be planed off one lamella alone, which keeps at least 10.0 mm, before the REI grade of the record's panel falls: the least
+   cut that lowers it. Answers
+
+     1,000 times the lamella's place in the record, from 1, and the tenths of mm taken off it: 2036 is 3.6 mm off the second lamella. With
+       as much at several places it is the one nearest the fire, for face 2 nearest the first face. A panel that would meet 13 counts as
+       lowered. A lesser cut of any lamella lowers nothing, but a greater one may leave the grade as it is: EI can rise again.
+     0 where no cut of any lamella lowers the grade;
+     minus the number of the refusal, as above but never -14.
+
+   It tries every cut from the least on: up to about a thousand times what a card takes. */
+int32_t yurbantse_planing(const uint8_t *bytes, size_t bytes_length);
 
 #ifdef __cplusplus
 }

@@ -26,6 +26,7 @@ GROUP = 300    # cases of one input
 FEW = 4        # cases of one input where each is many steps: a depth table, a section carried, a load minute, its seconds
 BUILT = 5      # lines that a case of test_panels prints
 MANY_STEPS = ("table", "carried", "card", "load", "seconds", "reserve", "loadgrade", "reigrade")
+CUTS = 25      # one case of `planing` for so many of the others: peer.py takes half a second for one
 
 
 def random_space(rng, record):
@@ -162,6 +163,9 @@ def cases(call, seed, count):
             yield record, random_wanted(rng, record), text
         elif call == "eigrade":
             yield random_layers(rng, record), text
+        elif call == "planing":
+            if number % CUTS == 0:
+                yield random_records.any_record(rng, random_records.thin_panel(rng)), text
         else:
             yield random_load(rng, record), text
 
@@ -169,7 +173,7 @@ def cases(call, seed, count):
 def pieces(call, all_cases):
     """The cases in groups whose input fits one run."""
     group, size = [], 0
-    most = FEW if call in MANY_STEPS else GROUP
+    most = 1 if call == "planing" else FEW if call in MANY_STEPS else GROUP
     for case in all_cases:
         length = len(programs.asked(call, case))
         if size + length > ROOM or len(group) == most:

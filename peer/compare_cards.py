@@ -1,10 +1,10 @@
-"""compare_cards.py REPOSITORY [--records N] [--seed S] [--jobs J]
+"""compare_cards.py REPOSITORY [--records N] [--seed S] [--jobs J] [--cuts C]
 
 Calls the proved functions as C does (target/staticlib/libcard_c.a, by `rt staticlib card_c`, made a shared object by cc) on N records and
 compares with peer.py: the card, the number answered, and every byte of the lent space. The records, of both versions and every face, are
 in turn within the limits, failing at any minute, at once or after a recovery, at a limit, damaged, and with one byte changed, each place
 of the record in its turn; the first are all lengths from none to 128 bytes. The space is the longest card's, the very card's, or one byte
-less.
+less. Then the least cut of C panels of thin lamellae, and of as many of these records that are refused.
 Ends with status 1 at a disagreement, and prints the record; and where something is missing, and says what.
 """
 import ctypes
@@ -84,6 +84,22 @@ def differs(library, seed, number):
     return refusal, None if all(agree) else record.hex()
 
 
+def cut_differs(library, seed, number):
+    """The record of a panel of thin lamellae, or of those above where refused, if the library says another cut than peer.py."""
+    rng = random.Random(f"cuts {seed} {number}")
+    records = [any_record(rng, random_records.thin_panel(rng)), record_of(seed, number)]
+    for record in records:
+        refusal, panel = peer.decode(record)
+        if record is records[1] and not refusal:
+            continue
+        cut = None if refusal else peer.least_cut(panel)
+        expected = -refusal if refusal else 0 if cut is None else 1_000 * cut[0] + cut[1]
+        given = (ctypes.c_ubyte * len(record)).from_buffer_copy(record)
+        if library.yurbantse_planing(given, ctypes.c_size_t(len(record))) != expected:
+            return record.hex()
+    return None
+
+
 def start(path, seed):
     global library, seeded
     library, seeded = ctypes.CDLL(path), seed
@@ -93,11 +109,16 @@ def compared(number):
     return differs(library, seeded, number)
 
 
+def cut_compared(number):
+    return cut_differs(library, seeded, number)
+
+
 def main():
     words = needs.arguments(__doc__)
     words.add_argument("--records", type=needs.count, default=5000)
     words.add_argument("--seed", type=int, default=1)
     words.add_argument("--jobs", type=needs.count, default=1)
+    words.add_argument("--cuts", type=needs.count, default=100)
     given = words.parse_args()
     archive = os.path.join(given.repository, "target/staticlib/libcard_c.a")
     needs.made(archive, "rt staticlib card_c")
@@ -113,7 +134,11 @@ def main():
                 print(f"record {number} disagrees: {wrong}")
                 sys.exit(1)
             refusals[refusal] += 1
-    print(f"{given.records} records agree: {refusals.pop(0, 0)} cards, refusals {dict(sorted(refusals.items()))}")
+        for number, wrong in enumerate(pool.imap(cut_compared, range(given.cuts), 5)):
+            if wrong is not None:
+                print(f"cut {number} disagrees: {wrong}")
+                sys.exit(1)
+    print(f"{given.records} records agree: {refusals.pop(0, 0)} cards, refusals {dict(sorted(refusals.items()))}; so do {given.cuts} least cuts")
 
 
 if __name__ == "__main__":

@@ -1044,6 +1044,71 @@ def grade_panel_cases():
     yield from panel_record_cases()
     yield peer.encode(SHORTEST), "one lamella of 10, EI below 10"
     yield peer.encode(crossed(60, 60, 60, 60, 60)), "300 mm, EI above 240"
+    for tenths in range(1, 4):
+        yield peer.encode(peer.planed(SWITCHING, 2, tenths)), f"the panel at the switch, {tenths} off its second lamella"
+
+
+# Two lamellae along, without load. The last layer's step changes at 2S = t, so EI is below 45 with a tenth off the second lamella, not with
+# two, and again with three.
+SWITCHING = G._replace(strength=400, moment=0, lamellae=((ALONG, 130), (ALONG, 326)))
+
+
+def layered(*lamellae, moment=0, face=None, rate=65, bond=0):
+    """Lamellae in tenths of mm, those across as negative numbers."""
+    panel = G._replace(moment=moment, rate=rate, bond=bond, lamellae=tuple((ALONG if h > 0 else ACROSS, abs(h)) for h in lamellae))
+    return panel if face is None else faced(panel, face)
+
+
+def planing_panels():
+    """(panel, text)"""
+    yield G, "G"
+    yield SWITCHING, "at the switch: one tenth lowers, two do not, three do"
+    yield peer.planed(SWITCHING, 2, 1), "the same with one tenth off, REI 30"
+    yield peer.planed(SWITCHING, 2, 2), "the same with two tenths off, REI 45"
+    # grade 0: only line 13 counts
+    yield layered(120, -100, -110, moment=47), "REI 0, depth 0 always passes"
+    yield layered(120, -200, moment=640, rate=50, bond=1), "REI 0, a cut that meets 13"
+    yield layered(110, 110, -250, 300, moment=22_306, rate=100), "REI 0, 13 met by a lamella across"
+    most = greatest_moment(plate(100))
+    for thickness in (150, 101):
+        yield plate(thickness)._replace(moment=most), f"one lamella of {thickness}, 10.0 mm carry the load, 9.9 would not"
+        yield plate(thickness)._replace(moment=most + 1), f"one lamella of {thickness}, 10.0 mm do not carry the load"
+    # lamellae of 10.0 mm may not be cut
+    yield plate(100)._replace(moment=most), "one lamella of 10.0 mm"
+    yield layered(100, -100, 100), "all of 10.0 mm"
+    yield layered(-110, -110, 100, moment=19, rate=50, bond=1), "REI 20, none"
+    yield layered(120, 101, 120, moment=271, face=EACH_ALONE, rate=50, bond=1), "REI 20, none, face 2"
+    yield layered(100, 110, -100, moment=195, face=LAST_FACE, rate=50), "REI 20, none, face 1"
+    yield layered(-150, 100, -200, moment=39, face=EACH_ALONE), "the middle one of 10.0 mm"
+    # a lamella is cut down to 10.0 mm
+    yield layered(-250, 120, -100, -200, moment=468, rate=100), "REI 15, down to 10.0 mm"
+    yield layered(101, -300, 250, 250, moment=465, face=EACH_ALONE, bond=1), "REI 60, the one tenth that may be taken"
+    yield from equal_cuts()
+    for face in (FIRST_FACE, LAST_FACE, EACH_ALONE):
+        yield faced(WALL, face), f"wall, face {face}"
+        yield faced(falls(behind(WALL, (A, 125)), 65), face), f"wall behind A, falling, face {face}"
+    yield falls(behind(WALL, (F, 125), failure_time=41_000), 80), "wall behind F, falling"
+    yield floor(250, 150, 200, 150, 250), "floor past its lines"
+    yield behind(crossed(20, 20, 20), (O, 200)), "behind O"
+    yield layered(*(120, -120) * 4, 120, moment=900, face=EACH_ALONE, rate=100, bond=1), "nine lamellae, face 2"
+
+
+def equal_cuts():
+    """(panel, text): as much at several places, of which the nearest to the fire is named."""
+    for face, text, panels in (
+            (FIRST_FACE, "face 0", (((-200, 250, -101), 2_340, 50, 0), ((-101, -150, 200), 1_050, 65, 0), ((-150, 120, 110, 250), 550, 100, 0))),
+            (LAST_FACE, "face 1", (((-150, 300, 300), 1_612, 50, 0), ((200, 100, 250), 7_908, 80, 1), ((150, 300, -150, 200), 534, 100, 0))),
+            (EACH_ALONE, "face 2", (((200, 200), 21, 100, 0), ((110, -100, 250, -100), 1_723, 65, 0), ((110, -200, 200), 157, 100, 0),
+                                    ((-250, 110, 300, -250), 3_699, 50, 0)))):
+        for lamellae, moment, rate, bond in panels:
+            yield layered(*lamellae, moment=moment, face=face, rate=rate, bond=bond), f"equal at several places, {text}, {len(lamellae)} lamellae, rate {rate}"
+
+
+def planing_cases():
+    """(record, text)"""
+    for panel, text in planing_panels():
+        yield peer.encode(panel), text
+    yield peer.encode(G._replace(moment=43_057)), "a refused record, so a blank panel"
 
 
 # ---------------------------------------------------------------- test_panels
@@ -1185,7 +1250,8 @@ CASES = {"read": record_cases, "write": write_cases, "build": build_cases,
          "time": time_cases, "sum": sum_cases, "grade": grade_cases, "rei": rei_cases,
          "card": card_cases, "refusal": refusal_cases, "load": panel_record_cases, "seconds": seconds_cases,
          "reserve": reserve_cases,
-         "loadgrade": grade_panel_cases, "eigrade": grade_panel_cases, "reigrade": grade_panel_cases}
+         "loadgrade": grade_panel_cases, "eigrade": grade_panel_cases, "reigrade": grade_panel_cases,
+         "planing": planing_cases}
 
 # the program that prints a card: what it reads
 CARD_INPUTS = {"card": g, "card_empty": b"", "card_long": peer.encode(faced(LONGEST, FIRST_FACE)) + bytes(1),

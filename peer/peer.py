@@ -659,6 +659,49 @@ def rei_grade(panel):
     return graded(lambda panel: min(load_minute(panel), ei_minute(panel)), panel)
 
 
+# ---------------------------------------------------------------- Planing
+
+LEAST_KEPT = 100  # tenths of mm that a planed lamella keeps
+
+
+def planed(panel, place, tenths):
+    """The panel with so many tenths of mm taken off the lamella at that place of the record, from 1."""
+    lamellae = list(panel.lamellae)
+    direction, thickness = lamellae[place - 1]
+    lamellae[place - 1] = (direction, thickness - tenths)
+    return panel._replace(lamellae=tuple(lamellae))
+
+
+def keeps_grade(panel, least):
+    """Whether a panel is accepted and its REI grade is at least that one; its minutes need not be known."""
+    refusal = panel_refusal(panel)
+    assert refusal in (0, 13), "a planed panel meets no line but 13"
+    return refusal == 0 and ei_minute(panel) >= least and time_passes(panel, least)
+
+
+def places_from_fire(panel):
+    """The places of the lamellae from 1, the one nearest the fire first; for face 2 nearest the first face."""
+    places = list(range(1, len(panel.lamellae) + 1))
+    return places[::-1] if panel.face == 1 else places
+
+
+def least_cut(panel):
+    """(place, tenths) of the least cut of an accepted panel that lowers its REI grade, None where no cut does."""
+    _, least = rei_grade(panel)
+    deepest = max(thickness for _, thickness in panel.lamellae) - LEAST_KEPT
+    for tenths in range(1, deepest + 1):
+        for place in places_from_fire(panel):
+            if panel.lamellae[place - 1][1] - tenths >= LEAST_KEPT and not keeps_grade(planed(panel, place, tenths), least):
+                return place, tenths
+    return None
+
+
+def planing(panel):
+    """(refusal, least cut or None)."""
+    refusal = panel_refusal(panel)
+    return (refusal, None) if refusal else (0, least_cut(panel))
+
+
 # ---------------------------------------------------------------- The card
 
 CARD_MINUTES = (30, 60, 90, 120)

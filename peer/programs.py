@@ -212,6 +212,16 @@ def panel_grade_answer(grade_of):
     return lambda record, text: number_or_refusal(grade_of(panel_of(record)), text)
 
 
+def planing_line(record, text):
+    return f"{word(record)} {text}"
+
+
+def planing_answer(record, text):
+    refusal, cut = peer.planing(panel_of(record))
+    said = "none" if cut is None else f"place {cut[0]} tenths {cut[1]}"
+    return number_or_refusal((refusal, said), text)
+
+
 # the program: the word of the call: (what follows it in stdin, what follows it in stdout)
 PROGRAMS = {
     "test_records": {
@@ -242,6 +252,9 @@ PROGRAMS = {
         "loadgrade": (panel_grade_line, panel_grade_answer(peer.load_grade)),
         "eigrade": (panel_grade_line, panel_grade_answer(peer.ei_grade)),
         "reigrade": (panel_grade_line, panel_grade_answer(peer.rei_grade)),
+    },
+    "test_planing": {
+        "planing": (planing_line, planing_answer),
     },
 }
 CALLS = {call: pair for calls in PROGRAMS.values() for call, pair in calls.items()}

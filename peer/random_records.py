@@ -221,6 +221,17 @@ def failing_at_once(rng):
     return panel._replace(moment=rng.randint(most - most // 10, most))
 
 
+def thin_panel(rng):
+    """A panel of at most four lamellae of 10 to 30 mm, of which few cuts can be taken: under any load, or failing about a grade's minute."""
+    panel = soon_failing(rng, random_panel(rng))
+    lamellae = tuple((direction, rng.choice([100, 101, rng.randint(100, 300)])) for direction, _ in panel.lamellae[-4:])
+    if not any(direction for direction, _ in lamellae):
+        lamellae = ((1, lamellae[0][1]),) + lamellae[1:]
+    panel = panel._replace(lamellae=lamellae)
+    failing = failing_at(rng, panel, rng.choice(peer.GRADES[:8]))
+    return failing if failing and rng.random() < 0.7 else panel._replace(moment=int(greatest_moment(panel) * rng.random() ** 2))
+
+
 def with_length(record):
     """The record with its own length in the length field."""
     return len(record).to_bytes(2, "big") + record[2:]

@@ -1,3 +1,4 @@
 pub mod ReadBack
 pub mod LoadMinute
 pub mod Seconds
+pub mod Planing

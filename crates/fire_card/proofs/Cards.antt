@@ -1,6 +1,6 @@
 -- The card call: what is read from the bytes, and how long a card is at most.
 use Prim.Native.Nat.{ℕ, zero, suc, _+_, _≤_}
-use mathlib.Core.Path.{_≡_, refl}
+use mathlib.Core.Path.{_≡_, refl, sym, ap, _∙_}
 use mathlib.Core.List.{List, [], _∷_, _++_}
 use lib.ListN.{length, length-append}
 use native.Mathlib.Omega.{arith}
@@ -9,6 +9,7 @@ use Rattle.panel.specs.Faces.{shown}
 use Rattle.limits.specs.Lines.{answer}
 use Rattle.record.specs.Layouts.{panelOf}
 use Rattle.record.specs.Refusals.{recordRefusal}
+use Rattle.record.specs.declared.Reading.{Reading}
 use Rattle.record.specs.Answers.{reading, blank, decode}
 use Rattle.layers.specs.Layers.{printedEi}
 use Rattle.grades.specs.Grades.{gradeOf, reiOf}
@@ -28,9 +29,15 @@ read-refusal b = go (recordRefusal b)
     go zero = refl
     go (suc n) = refl
 
-pub read-panel : (b : List ℕ) → recordRefusal b ≡ 0 → decode b .panel ≡ panelOf b
+read-panel : (b : List ℕ) → recordRefusal b ≡ 0 → decode b .panel ≡ panelOf b
 unfolding decode
 read-panel b e = rw e refl
+
+-- what is read, by the refusal that stands beside it
+pub none-read : (b : List ℕ) (x : Reading) → x ≡ decode b → x .refusal ≡ 0 → (recordRefusal b ≡ 0) × (x .panel ≡ panelOf b)
+none-read b x e z =
+    let none = sym (ap (λ (y : Reading). y .refusal) e ∙ read-refusal b) ∙ z in
+    (none, ap (λ (y : Reading). y .panel) e ∙ read-panel b none)
 
 -- Lengths
 

@@ -24,11 +24,11 @@ use Rattle.panel.proofs.Used.{length-lamellaeOf, getD-lamellaeOf}
 use Rattle.panel.proofs.Thicknesses.{thinnest-least}
 use Rattle.section.specs.Tests.{SectionFits, depthPasses}
 use Rattle.limits.specs.declared.ByteFaults.{ByteFaults}
-use Rattle.limits.specs.Lines.{refusal, NoneFits, causeOf, First}
-use Rattle.limits.specs.Causes.{badLoad, badTypes, badBoard, badBoards, badCount, badLamella, badLamellae, some}
-use Rattle.limits.specs.Refusals.{noBytes, tableLines, panelLines, panelRefusal}
+use Rattle.limits.specs.Lines.{line, refusal, NoneFits, causeOf, downTo, First}
+use Rattle.limits.specs.Causes.{badLoad, badTypes, badBoard, badBoards, badCount, badLamella, badLamellae, badSection, some}
+use Rattle.limits.specs.Refusals.{noBytes, tableLines, panelLines, panelRefusal, refusalTo12}
 use Rattle.limits.specs.Keeps.{ThicknessKeeps, TypesKeep, BoardKeeps, CladdingKeeps, LamellaKeeps, LamellaeKeep, ThicknessesKeep, Keeps, StartWhole}
-use Rattle.limits.proofs.FirstLine.{accepted-iff, refusal-first, cause-none}
+use Rattle.limits.proofs.FirstLine.{accepted-iff, refusal-first, cause-none, open-above, open-both}
 
 -- what lines 5, 10 and 11 leave: the section test fits its numbers
 pub section-fits : (p : Panel) → badLoad p ≡ false → badCount (p .count) ≡ false → badLamellae p ≡ false → SectionFits p
@@ -108,10 +108,11 @@ lamellae-keep (l ∷ ls) e =
       lamellae-keep ls (both .1),
     )
 
--- an accepted panel keeps every limit
-pub accepted-keeps : (p : Panel) → panelRefusal p ≡ 0 → Keeps p
-accepted-keeps p e =
-    let none = accepted-cause p e in
+-- a panel that no line above 13 turns back keeps every limit
+pub to12-keeps : (p : Panel) → refusalTo12 p ≡ 0 → Keeps p
+unfolding refusalTo12
+to12-keeps p e =
+    let none = cause-none (downTo 12 (panelLines p)) tt e in
     let version = in-range 1 2 (p .version) (none 2) in
     let sixteen = or-none (ltb 2 (p .face)) (eqb (p .version) 1 && not (eqb (p .face) 0)) (none 16) in
     let three = or-none (ltb 1 (p .bond)) (ltb 1 (p .gap)) (none 3) in
@@ -137,6 +138,20 @@ accepted-keeps p e =
       notGiven = time .1;
       each = lamellae-keep (lamellae p) (thick .0);
     }
+
+-- the lines above 13 turn back no accepted panel
+pub accepted-to12 : (p : Panel) → panelRefusal p ≡ 0 → refusalTo12 p ≡ 0
+unfolding panelRefusal refusalTo12
+accepted-to12 p e = open-both (downTo 12 (panelLines p)) (line 13 (badSection p) ∷ []) tt e .0
+
+-- where they turn a panel not back, line 13 decides
+pub section-decides : (p : Panel) → refusalTo12 p ≡ 0 → panelRefusal p ≡ pick (badSection p) 13 0
+unfolding panelRefusal refusalTo12
+section-decides p e = sym (open-above (downTo 12 (panelLines p)) (line 13 (badSection p) ∷ []) tt refl e refl)
+
+-- an accepted panel keeps every limit
+pub accepted-keeps : (p : Panel) → panelRefusal p ≡ 0 → Keeps p
+accepted-keeps p e = to12-keeps p (accepted-to12 p e)
 
 pub accepted-fits : (p : Panel) → panelRefusal p ≡ 0 → SectionFits p
 accepted-fits p e = accepted-keeps p e .section

@@ -8,9 +8,9 @@ use Rattle.panel.specs.Lamellae.{Lamella, lamellae, along}
 use Rattle.panel.specs.Faces.{turned, shown}
 use Rattle.panel.proofs.Turning.{turned-lamellae, turned-count, thickness-reverse, shown-holds}
 use Rattle.section.proofs.Mirroring.{zero-turned}
-use Rattle.limits.specs.Lines.{refusal}
+use Rattle.limits.specs.Lines.{Line, refusal, downTo}
 use Rattle.limits.specs.Causes.{badLamella, some}
-use Rattle.limits.specs.Refusals.{panelLines, panelRefusal}
+use Rattle.limits.specs.Refusals.{panelLines, panelRefusal, refusalTo12}
 use Rattle.limits.proofs.Tests.{some-more}
 
 some-reverse : (test : Lamella → Bool) (ls : List Lamella) → some test (reverse ls) ≡ some test ls
@@ -37,6 +37,10 @@ lines-turned p =
 pub refusal-turned : (p : Panel) → panelRefusal (turned p) ≡ panelRefusal p
 unfolding panelRefusal
 refusal-turned p = ap refusal (lines-turned p)
+
+pub to12-turned : (p : Panel) → refusalTo12 (turned p) ≡ refusalTo12 p
+unfolding refusalTo12
+to12-turned p = ap (λ (ls : List Line). refusal (downTo 12 ls)) (lines-turned p)
 
 -- the fire that is shown of an accepted panel is that of an accepted one
 pub shown-accepted : (p : Panel) → panelRefusal p ≡ 0 → panelRefusal (shown p) ≡ 0

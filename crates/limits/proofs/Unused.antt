@@ -1,6 +1,7 @@
 -- Unused places do not matter: panels that differ at most there get the same refusal and the same answers.
 use Prim.Native.Nat.{ℕ}
 use mathlib.Core.Path.{_≡_, refl, ap, _∙_}
+use mathlib.Core.List.{List}
 use Rattle.panel.specs.declared.Panel.{Panel}
 use Rattle.panel.specs.Lamellae.{cleared, SameUsed}
 use Rattle.panel.specs.Faces.{shown}
@@ -8,8 +9,8 @@ use Rattle.panel.proofs.Used.{lamellae-cleared, count-cleared, cleared-same, un
 use Rattle.panel.proofs.Turning.{shown-same}
 use Rattle.section.specs.Tests.{sectionAt, depthPasses}
 use Rattle.limits.specs.declared.SectionAnswer.the-variants.{At, Refused}
-use Rattle.limits.specs.Lines.{refusal, answer}
-use Rattle.limits.specs.Refusals.{panelLines, panelRefusal}
+use Rattle.limits.specs.Lines.{Line, refusal, downTo, answer}
+use Rattle.limits.specs.Refusals.{panelLines, panelRefusal, refusalTo12}
 use Rattle.limits.specs.Answers.{sectionAnswer, compared, buildAnswer}
 
 -- they meet the same lines
@@ -19,6 +20,10 @@ lines-unused = unused panelLines (λ p. rw (lamellae-cleared p, count-cleared p)
 pub refusal-unused : (p q : Panel) → SameUsed p q → panelRefusal p ≡ panelRefusal q
 unfolding panelRefusal
 refusal-unused p q h = ap refusal (lines-unused p q h)
+
+pub to12-unused : (p q : Panel) → SameUsed p q → refusalTo12 p ≡ refusalTo12 q
+unfolding refusalTo12
+to12-unused p q h = ap (λ (ls : List Line). refusal (downTo 12 ls)) (lines-unused p q h)
 
 pub section-same : (p q : Panel) → SameUsed p q → (depth : ℕ) → sectionAt p depth ≡ sectionAt q depth
 section-same p q h depth = unused (λ (p : Panel). sectionAt p depth) (λ p. rw (lamellae-cleared p) refl) p q h

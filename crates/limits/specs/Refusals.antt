@@ -5,7 +5,7 @@ use mathlib.Core.List.{List, [], _∷_}
 use mathlib.Core.Bool.{false, _||_}
 use Rattle.panel.specs.declared.Panel.{Panel}
 use Rattle.limits.specs.declared.ByteFaults.{ByteFaults}
-use Rattle.limits.specs.Lines.{Line, line, refusal}
+use Rattle.limits.specs.Lines.{Line, line, refusal, downTo}
 use Rattle.limits.specs.Causes.{
   badVersion,
   badFace,
@@ -51,3 +51,7 @@ panelLines p = tableLines noBytes p
 -- 0: the panel is accepted
 unfoldable pub panelRefusal : Panel → ℕ
 panelRefusal p = refusal (panelLines p)
+
+-- the same by the lines above 13 alone: where it is 0 depth 0 may still fail, and nothing else
+unfoldable pub refusalTo12 : Panel → ℕ
+refusalTo12 p = refusal (downTo 12 (panelLines p))

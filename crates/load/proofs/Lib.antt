@@ -8,6 +8,8 @@ pub mod Closeness
 pub mod ExactFailure
 -- Several fires.
 pub mod EveryFire
+-- Passing through a minute: whether R is at least the minute.
+pub mod LastingLaws
 -- More exposure, the reserve, and unused places.
 pub mod Exposure
 pub mod Reserves

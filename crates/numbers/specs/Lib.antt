@@ -1,4 +1,5 @@
 pub mod Choice
 pub mod Firsts
 pub mod Largest
+pub mod Least
 pub mod Bytes

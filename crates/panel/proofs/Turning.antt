@@ -2,14 +2,16 @@
 use Prim.Native.Nat.{ℕ, zero, suc, _-_, _<_, _≤_, min}
 use mathlib.Core.Path.{_≡_, refl, sym, ap, ap₂, subst, _∙_}
 use mathlib.Core.List.{List, [], _∷_, reverse, reverse-cons, reverse-reverse}
+use mathlib.Core.Bool.{Bool, true, _&&_}
 use native.Mathlib.Omega.{arith}
 use lib.ListN.{getD, length-reverse}
 use Rattle.numbers.specs.Firsts.{firsts}
+use Rattle.numbers.proofs.Booleans.{and-left}
 use Rattle.numbers.proofs.FirstValues.{reverse-firsts}
 use Rattle.panel.specs.declared.Panel.{Panel}
 use Rattle.panel.specs.Lamellae.{Lamella, lamella, lamellaeOf, lamellae, withLamellae, cleared, SameUsed, thickness}
 use Rattle.panel.specs.Builds.{SameBuild}
-use Rattle.panel.specs.Faces.{turned, firesOn, fires, shownOn, shown, InEvery, leastOf}
+use Rattle.panel.specs.Faces.{turned, firesOn, fires, shownOn, shown, InEvery, inEvery, leastOf}
 use Rattle.panel.proofs.Used.{length-lamellaeOf, lamellae-with, lamellae-cleared, thickness-append, unused}
 
 -- What turning keeps
@@ -38,7 +40,7 @@ pub reverse-lamellaeOf :
 unfolding lamellaeOf
 reverse-lamellaeOf gs ts n = reverse-firsts (λ (i : ℕ). lamella (getD gs i 0) (getD ts i 0)) n
 
--- The fire that is shown, and the least over all fires
+-- The fire that is shown, and the least and a test over all fires
 
 -- of a face other than the last the first is shown
 pub shown-first : (face : ℕ) (p : Panel) → (face ≡ 1 → ⊥) → p ≡ shownOn face p
@@ -59,6 +61,25 @@ pub two-fires :
 two-fires minute zero p h = absurd (let z : ⊥ = omega arith in z)
 two-fires minute (suc zero) p h = absurd (let z : ⊥ = omega arith in z)
 two-fires minute (suc (suc face)) p h = refl
+
+-- the same of a test
+pub every-one : (test : Panel → Bool) (face : ℕ) (p : Panel) → face < 2 → test (shownOn face p) ≡ inEvery test (firesOn face p)
+every-one test zero p h = refl
+every-one test (suc zero) p h = refl
+every-one test (suc (suc face)) p h = absurd (let z : ⊥ = omega arith in z)
+
+pub every-two :
+    (test : Panel → Bool) (face : ℕ) (p : Panel) → 2 ≤ face
+    → (test (shownOn face p) && test (turned p)) ≡ inEvery test (firesOn face p)
+every-two test zero p h = absurd (let z : ⊥ = omega arith in z)
+every-two test (suc zero) p h = absurd (let z : ⊥ = omega arith in z)
+every-two test (suc (suc face)) p h = refl
+
+-- the fire that is shown is one of them
+pub every-shown : (test : Panel → Bool) (face : ℕ) (p : Panel) → inEvery test (firesOn face p) ≡ true → test (shownOn face p) ≡ true
+every-shown test zero p e = e
+every-shown test (suc zero) p e = e
+every-shown test (suc (suc face)) p e = and-left (test p) (test (turned p)) e
 
 -- what holds of a panel and of the same turned holds of the fire that is shown and in every fire
 pub shown-holds : (Holds : Panel → Type 0) (face : ℕ) (p : Panel) → Holds p → Holds (turned p) → Holds (shownOn face p)
@@ -93,6 +114,17 @@ module _ (Alike : Panel → Panel → Type 0) (faces : (p q : Panel) → Alike p
       → leastOf f (fires p) ≡ leastOf f (fires q)
   least-alike f same p q h = ap (λ (face : ℕ). leastOf f (firesOn face p)) (faces p q h) ∙ least-on f same (q .face) p q h
 
+  every-on :
+      (test : Panel → Bool) → ((p q : Panel) → Alike p q → test p ≡ test q) → (face : ℕ) (p q : Panel) → Alike p q
+      → inEvery test (firesOn face p) ≡ inEvery test (firesOn face q)
+  every-on test same zero p q h = same p q h
+  every-on test same (suc zero) p q h = same (turned p) (turned q) (turns p q h)
+  every-on test same (suc (suc face)) p q h = ap₂ (λ (a b : Bool). a && b) (same p q h) (same (turned p) (turned q) (turns p q h))
+
+  pub every-alike : (test : Panel → Bool) → ((p q : Panel) → Alike p q → test p ≡ test q) → (p q : Panel) → Alike p q
+      → inEvery test (fires p) ≡ inEvery test (fires q)
+  every-alike test same p q h = ap (λ (face : ℕ). inEvery test (firesOn face p)) (faces p q h) ∙ every-on test same (q .face) p q h
+
 -- UNUSED PLACES do not matter: turned panels have none that are not 0
 pub turned-same : (p q : Panel) → SameUsed p q → turned p ≡ turned q
 turned-same = unused turned (λ p. ap (λ (ls : List Lamella). withLamellae p (reverse ls)) (lamellae-cleared p))
@@ -106,6 +138,11 @@ shown-same = shown-alike SameUsed face-same (λ p q h. ap cleared (turned-same p
 pub least-same :
     (f : Panel → ℕ) → ((p q : Panel) → SameUsed p q → f p ≡ f q) → (p q : Panel) → SameUsed p q → leastOf f (fires p) ≡ leastOf f (fires q)
 least-same = least-alike SameUsed face-same (λ p q h. ap cleared (turned-same p q h))
+
+pub every-same :
+    (test : Panel → Bool) → ((p q : Panel) → SameUsed p q → test p ≡ test q) → (p q : Panel) → SameUsed p q
+    → inEvery test (fires p) ≡ inEvery test (fires q)
+every-same = every-alike SameUsed face-same (λ p q h. ap cleared (turned-same p q h))
 
 -- PANELS OF THE SAME BUILD are so from either face
 pub turned-build : (a b : Panel) → SameBuild a b → SameBuild (turned a) (turned b)

@@ -1,6 +1,7 @@
 -- Document 02, 3/14: "a face byte after the version: 0 first face, 1 last face, 2 each alone".
 use Prim.Native.Nat.{ℕ, zero, suc, min}
 use mathlib.Core.List.{List, [], _∷_, reverse}
+use mathlib.Core.Bool.{Bool, true, _&&_}
 use Rattle.panel.specs.declared.Panel.{Panel}
 use Rattle.panel.specs.Lamellae.{lamellae, withLamellae}
 
@@ -32,6 +33,12 @@ abbrev pub InEvery : (Panel → Type 0) → List Panel → Type 0
 InEvery Holds [] = Unit
 InEvery Holds (fire ∷ []) = Holds fire
 InEvery Holds (fire ∷ next ∷ more) = Holds fire × InEvery Holds (next ∷ more)
+
+-- a test that holds in every fire
+abbrev pub inEvery : (Panel → Bool) → List Panel → Bool
+inEvery test [] = true
+inEvery test (fire ∷ []) = test fire
+inEvery test (fire ∷ next ∷ more) = test fire && inEvery test (next ∷ more)
 
 -- "For 2 the printed minutes are the lesser of the two fires"
 abbrev pub leastOf : (Panel → ℕ) → List Panel → ℕ

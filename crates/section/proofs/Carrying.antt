@@ -14,12 +14,8 @@ use Rattle.section.specs.declared.Section.{Section}
 use Rattle.section.specs.Sections.{Part, leastRemainder, rest, counts, keepIf, countedFrom, counted, total, lowest, highest, sectionOf}
 use Rattle.section.specs.Carried.{without, cutsPart, step, pickCut, firstAlong, cutFrom, carried}
 use Rattle.section.specs.Carrying.{EachThick, HoldsPart, StepFits}
-use Rattle.section.proofs.Chains.{Chain, none, more, counts-forward, counted-chain}
+use Rattle.section.proofs.Chains.{Chain, none, more, part, counted-ahead, counts-forward, counted-chain, highest-same}
 use Rattle.section.proofs.Products.{square-rises, cube-rises}
-
--- a part from a to b
-abbrev part : ℕ → ℕ → Part
-part a b = record { from = a; to = b }
 
 -- What a tenth of mm does to the counted parts, where the lamella being cut ends at `end` and the next along one begins at `next`
 pub data Cutting : ℕ → ℕ → List Part → List Part → Type 0 where
@@ -34,15 +30,7 @@ pub data Cutting : ℕ → ℕ → List Part → List Part → Type 0 where
 
 -- That there are no other cases
 
--- lamellae that begin deeper count at the next depth as they do at this one
-counted-ahead : (depth top : ℕ) (ls : List Lamella) → depth < top → countedFrom (depth + 1) top ls ≡ countedFrom depth top ls
-unfolding countedFrom
-counted-ahead depth top [] h = refl
-counted-ahead depth top (l ∷ ls) h =
-    let same : max (depth + 1) top ≡ max depth top = omega arith in
-    rw same (ap (keepIf (counts depth top l) (rest depth top l)) (counted-ahead depth (top + l .thickness) ls (omega arith)))
-
--- the next along one of such lamellae is the first that is counted
+-- the next along one of lamellae that begin deeper is the first that is counted
 first-counted : (depth top : ℕ) (ls : List Lamella) → depth ≤ top → EachThick ls → firstAlong top ls ≡ lowest (countedFrom depth top ls)
 unfolding firstAlong countedFrom lowest
 first-counted depth top [] h each = refl
@@ -107,7 +95,7 @@ cutting depth top (l ∷ ls) h each =
         let above : depth < end = ltb-true depth end e in
         let here : max depth top ≡ depth = omega arith in
         let later : max (depth + 1) top ≡ depth + 1 = omega arith in
-        rw (here, later, counted-ahead depth end ls above)
+        rw (here, later, counted-ahead (depth + 1) depth end ls (omega arith) (omega arith))
         (inside depth end (firstAlong end ls) (end + thickness ls) (along l) (countedFrom depth end ls) above
         (first-counted depth end ls (omega arith) (each .1)) (counted-chain depth end (end + thickness ls) ls (omega arith)))
     go false e deeper =
@@ -186,11 +174,6 @@ across-stays depth top next l ls h inside across =
     (cuts-counted depth top l ls h inside .0 ∙ ap (λ (b : Bool). b && leb leastRemainder (rest depth top l .to - rest depth top l .from)) across)
 
 -- The sums with the first part a tenth shorter
-
-highest-same : (a b end : ℕ) (xs : List Part) → highest (part a end ∷ xs) ≡ highest (part b end ∷ xs)
-unfolding highest
-highest-same a b end [] = refl
-highest-same a b end (x ∷ xs) = refl
 
 moved-section : (depth end : ℕ) (xs : List Part) → depth + 1 < end
     → without (sectionOf (part depth end ∷ xs)) (part depth (depth + 1)) (depth + 1) ≡ sectionOf (part (depth + 1) end ∷ xs)

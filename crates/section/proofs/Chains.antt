@@ -1,7 +1,7 @@
 -- The counted parts lie one below the other within the panel, and none is empty: hence the bounds on N, P, Q, lo and hi.
 -- Assumes nothing.
-use Prim.Native.Nat.{ℕ, _+_, _-_, _*_, _≤_, _<_}
-use mathlib.Core.Path.{_≡_, refl}
+use Prim.Native.Nat.{ℕ, _+_, _-_, _*_, _≤_, _<_, max}
+use mathlib.Core.Path.{_≡_, refl, ap}
 use mathlib.Core.Bool.{Bool, true, false}
 use mathlib.Core.List.{List, [], _∷_}
 use native.Mathlib.Nat.{le-trans}
@@ -17,6 +17,10 @@ use Rattle.section.proofs.Products.{square-rises, cube-rises}
 pub data Chain : ℕ → List Part → ℕ → Type 0 where
   none : {top bottom : ℕ} → top ≤ bottom → Chain top [] bottom
   more : {top bottom : ℕ} {x : Part} {xs : List Part} → top ≤ x .from → x .from < x .to → Chain (x .to) xs bottom → Chain top (x ∷ xs) bottom
+
+-- a part from a to b
+abbrev pub part : ℕ → ℕ → Part
+part a b = record { from = a; to = b }
 
 -- a chain from a top is one from any higher top
 chain-from-higher : {top higher bottom : ℕ} {xs : List Part} → higher ≤ top → Chain top xs bottom → Chain higher xs bottom
@@ -44,6 +48,14 @@ unfolding countedFrom thickness
 counted-chain depth top bottom [] h = none {top = top} {bottom = bottom} (omega arith)
 counted-chain depth top bottom (l ∷ ls) h =
     chain-keepIf depth top bottom l _ (counts depth top l) refl (counted-chain depth (top + l .thickness) bottom ls (omega arith))
+
+-- lamellae that begin no sooner than either of two depths count at the one as at the other
+pub counted-ahead : (a b top : ℕ) (ls : List Lamella) → a ≤ top → b ≤ top → countedFrom a top ls ≡ countedFrom b top ls
+unfolding countedFrom
+counted-ahead a b top [] h k = refl
+counted-ahead a b top (l ∷ ls) h k =
+    let same : max a top ≡ max b top = omega arith in
+    rw same (ap (keepIf (counts b top l) (rest b top l)) (counted-ahead a b (top + l .thickness) ls (omega arith) (omega arith)))
 
 -- a chain's top is not below its bottom
 pub chain-ends : {top bottom : ℕ} {xs : List Part} → Chain top xs bottom → top ≤ bottom
@@ -78,6 +90,12 @@ unfolding highest
 highest-within (none below) = omega arith
 highest-within (more after forward (none below)) = below
 highest-within (more after forward (more after′ forward′ c)) = highest-within (more after′ forward′ c)
+
+-- where the first part begins does not matter to the highest end
+pub highest-same : (a b end : ℕ) (xs : List Part) → highest (part a end ∷ xs) ≡ highest (part b end ∷ xs)
+unfolding highest
+highest-same a b end [] = refl
+highest-same a b end (x ∷ xs) = refl
 
 -- the sums of a panel of at most 400.0 mm keep their bounds at every depth
 pub counted-bounds : (depth : ℕ) (ls : List Lamella) → thickness ls ≤ 4000 → SectionBounds (sectionOf (counted depth ls))

@@ -4,6 +4,8 @@ pub mod Chains
 -- No difference is cut off at 0.
 pub mod Moments
 pub mod NothingCut
+-- A deeper section is smaller.
+pub mod Shrinking
 -- At depth 0 the other face is tested alike.
 pub mod MirrorSums
 pub mod Mirroring

@@ -49,6 +49,13 @@ moments-add N P Q n p q one two =
     let between = mixed N P Q n p q (omega arith) (omega arith) in
     omega arith
 
+-- and 4NQ − 3P² of the sums is no less than of one of the two
+pub inertia-adds : (N P Q n p q : ℕ) → 3 * P * P ≤ 4 * N * Q → 3 * p * p ≤ 4 * n * q
+    → 4 * n * q - 3 * p * p ≤ 4 * (N + n) * (Q + q) - 3 * (P + p) * (P + p)
+inertia-adds N P Q n p q one two =
+    let between = mixed N P Q n p q (omega arith) (omega arith) in
+    omega arith
+
 -- one part: N is d, P is 2ad + d², Q is 3a²d + 3ad² + d³
 pub square-part : (a d : ℕ) → (a + d) * (a + d) - a * a ≡ 2 * (a * d) + d * d
 square-part a d = omega arith

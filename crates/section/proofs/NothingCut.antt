@@ -43,7 +43,7 @@ total-below t (more {x = x} {xs = xs} after forward c) h =
     below-add _ _ _ _ t part deeper
 
 -- 3P² ≤ 4NQ
-total-moments : {top bottom : ℕ} {xs : List Part} → Chain top xs bottom
+pub total-moments : {top bottom : ℕ} {xs : List Part} → Chain top xs bottom
     → 3 * total (λ (x : ℕ). x * x) xs * total (λ (x : ℕ). x * x) xs ≤ 4 * total (λ (x : ℕ). x) xs * total (λ (x : ℕ). x * x * x) xs
 unfolding total
 total-moments (none below) = omega arith
@@ -57,7 +57,7 @@ chain-outer (none below) = total-above 0 (none below) (omega arith)
 chain-outer (more {x = x} after forward c) = total-above (x .from) (more (le-refl (x .from)) forward c) (le-refl (x .from))
 
 -- a chain of one part and more ends at its highest end
-chain-highest : {top bottom : ℕ} {x : Part} {xs : List Part} → Chain top (x ∷ xs) bottom → Chain top (x ∷ xs) (highest (x ∷ xs))
+pub chain-highest : {top bottom : ℕ} {x : Part} {xs : List Part} → Chain top (x ∷ xs) bottom → Chain top (x ∷ xs) (highest (x ∷ xs))
 unfolding highest
 chain-highest (more {x = x} after forward (none below)) = more after forward (none (le-refl (x .to)))
 chain-highest (more after forward (more after′ forward′ c)) = more after forward (chain-highest (more after′ forward′ c))

@@ -8,6 +8,7 @@ ghost use mathlib.Core.Path.{_≡_};
 ghost use Prim.Native.Nat.{_-_, _*_, _≤_, max};
 ghost use lib.Dec.{leb};
 ghost use Rattle.section.specs.Tests.{carries, depthPasses, SectionFits, SectionBounds};
+ghost use Rattle.section.specs.Between.{carriesBetween};
 ghost use Rattle.section.specs.NothingCut.{NothingCut};
 
 // 2N times the distance of the outermost fibre from the centroid.
@@ -45,6 +46,26 @@ fn is_within(factor: u64, moment: u32, strength: u16, e: u64, w: u64) -> bool
     120000 * (moment as u64) * e <= factor * (strength as u64) * w
 }
 
+// Whether every depth from that of `shallow` to that of `deep` passes, tested at once. No open call: as for `section_passes`.
+pub fn sections_pass(
+    factor: u64,
+    moment: u32,
+    strength: u16,
+    shallow: Section,
+    deep: Section,
+) -> bool
+    requires { ⌜ factor ≤ 23 ⌝ }
+    requires { ⌜ moment ≤ 1000000 ⌝ }
+    requires { ⌜ strength ≤ 400 ⌝ }
+    requires { ⌜ SectionBounds shallow × NothingCut shallow ⌝ }
+    requires { ⌜ SectionBounds deep × NothingCut deep ⌝ }
+    ensures { λ r. ⌜ r ≡ carriesBetween factor moment strength shallow deep ⌝ }
+{
+    let e = edge_of(shallow.n, shallow.p, shallow.lo, shallow.hi);
+    let w = inertia_of(deep.n, deep.p, deep.q);
+    (0 < deep.n) & is_within(factor, moment, strength, e, w)
+}
+
 // No open call: the factor must be a product's, the moment, the strength and the sums must keep the limits of lines 5 and 11, and no
 // difference of the sums may be cut off at 0; of a section at a depth none is.
 pub fn section_passes(factor: u64, moment: u32, strength: u16, s: Section) -> bool
@@ -54,9 +75,7 @@ pub fn section_passes(factor: u64, moment: u32, strength: u16, s: Section) -> bo
     requires { ⌜ SectionBounds s × NothingCut s ⌝ }
     ensures { λ r. ⌜ r ≡ carries factor moment strength s ⌝ }
 {
-    let e = edge_of(s.n, s.p, s.lo, s.hi);
-    let w = inertia_of(s.n, s.p, s.q);
-    (0 < s.n) & is_within(factor, moment, strength, e, w)
+    sections_pass(factor, moment, strength, s, s)
 }
 
 // No open call: the panel must keep the limits of lines 5, 10 and 11.

@@ -6,6 +6,7 @@ mod cards;
 mod chars;
 mod gradings;
 mod loads;
+mod planings;
 mod reads;
 mod records;
 mod sections;
@@ -105,6 +106,8 @@ fn answer_ratings(line: &[u8]) {
         gradings::answer_ei_grade(rest);
     } else if is_word(line, b"reigrade") {
         gradings::answer_rei_grade(rest);
+    } else if is_word(line, b"planing") {
+        planings::answer(rest);
     } else {
         output::unknown(rest);
     }

@@ -1,29 +1,22 @@
 -- `fire_card::calls::card` meets its contract: the card of an accepted record, made aside and then delivered. Assumes nothing.
 use Prim.Native.Nat.{ℕ}
 use Rattle.card_text.proofs.Storing.{put-text, put-count}
-use Rattle.fire_card.proofs.Cards.{read-refusal, read-panel, card-length}
+use Rattle.fire_card.proofs.Cards.{read-refusal, none-read, card-length}
 use Rattle.fire_card.proofs.Texts.{text-refused, text-delivered}
 use Rattle.fire_card.specs.Answers.{textAnswer, textAfter}
 use Rattle.fire_card.specs.Card.{cardText, cardMost}
 use Rattle.limits.specs.Refusals.{panelRefusal}
 use Rattle.record.proofs.Sound.{record-panel}
-use Rattle.record.specs.Answers.{decode}
 use Rattle.record.specs.Layouts.{panelOf}
 use Rattle.record.specs.Refusals.{recordLines, recordRefusal}
 use Rattle.record.specs.declared.Reading.{Reading}
 use borrow.Author.Needs.{needs}
 use denote.Ref.{now}
 use mathlib.Core.List.{List, []}
-use mathlib.Core.Path.{_≡_, sym, ap, _∙_}
+use mathlib.Core.Path.{ap, _∙_}
 use native.Mathlib.Nat.{le-refl}
 use Rattle.fire_card.proofs.calls.card.Statement.{statement}
 use Rattle.fire_card.proofs.calls.card.Tie as tie
-
--- what is read, by the refusal that stands beside it
-none-read : (b : List ℕ) (x : Reading) → x ≡ decode b → x .refusal ≡ 0 → (recordRefusal b ≡ 0) × (x .panel ≡ panelOf b)
-none-read b x e z =
-    let none = sym (ap (λ (y : Reading). y .refusal) e ∙ read-refusal b) ∙ z in
-    (none, ap (λ (y : Reading). y .panel) e ∙ read-panel b none)
 
 returns : tie.Need-returns
 unfolding recordRefusal
