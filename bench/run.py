@@ -3,7 +3,8 @@
 What a card costs, in instructions counted by callgrind: the proved library (target/staticlib/libcard_c.a, by `rt staticlib card_c`) beside
 bench/card.c, the same steps in plain C at -O3. Both print the same cards for N random panels first, of version 1, with the fire on the
 last face of the same panels turned, and with a fire on each face. Of an input the cost is what two more passes over it take beyond one, so
-that start-up does not count. Ends with status 1 where the cards differ or something is missing.
+that start-up does not count. Then what the least cut costs (yurbantse_planing), of N/5 of the panels of each kind and of panels that take
+long. Ends with status 1 where the cards differ or something is missing.
 """
 import os
 import random
@@ -68,10 +69,33 @@ def row(word, both):
     print(f"{word:>24} {both['Rattle']:>12,.0f} {both['C']:>12,.0f} {both['Rattle'] / both['C']:>8.2f}", flush=True)
 
 
+def each_face(moment, rate, strength, boards, lamellae):
+    """A panel with a fire on each face, bonds that fall and a wide gap; lamellae across as negative numbers."""
+    return Panel(2, peer.EACH_ALONE, 1, rate, 1, strength, moment, 0, boards, tuple((1 if h > 0 else 0, abs(h)) for h in lamellae))
+
+
+# no cut of them lowers the grade
+LONG_SEARCHES = {
+    "nine equal, without load": each_face(0, 65, 240, (), (444,) * 9),
+    "the longest found": each_face(6_950, 95, 100, (peer.Board(ord("A"), 250, 100),) * 2, (537, 569, -552, -238, -465, -554, 274, 386, 425)),
+}
+
+
 def plate(total, count):
     """A panel of lamellae along, as equal as can be, that carries nothing: bare, at the greatest rate, with bonds that fall."""
     parts = [total // count + (1 if i < total % count else 0) for i in range(count)]
     return Panel(1, 0, 1, 100, 0, 240, 0, 0, (), tuple((1, part) for part in parts))
+
+
+def build_planing(archive, folder, compiler):
+    program = os.path.join(folder, "bench_planing")
+    needs.run([compiler, "-O3", "-Wall", "-Wextra", f"-I{HERE}/../c", f"{HERE}/planing.c", archive, "-o", program])
+    return program
+
+
+def planing_row(word, program, folder, panels):
+    count = (instructions(program, write_records(folder, panels), 2) - instructions(program, write_records(folder, panels), 1)) / len(panels)
+    print(f"{word:>40} {count:>14,.0f}", flush=True)
 
 
 def main():
@@ -106,6 +130,13 @@ def main():
     for total in (500, 1_000, 1_500, 2_000, 2_500, 3_000):
         row(f"{total:,} tenths, 5 lamellae", costs(programs, folder, [plate(total, 5)]))
     row("4,000 tenths, 9 lamellae", costs(programs, folder, [plate(4_000, 9)]))
+
+    planing = build_planing(archive, folder, given.cc)
+    print(f"{'instructions per least cut':>40} {'Rattle':>14}")
+    for word, panels in kinds.items():
+        planing_row(word, planing, folder, panels[:given.panels // 5])
+    for word, panel in LONG_SEARCHES.items():
+        planing_row(word, planing, folder, [panel])
 
 
 if __name__ == "__main__":

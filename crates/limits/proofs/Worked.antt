@@ -8,13 +8,18 @@ use Rattle.panel.specs.Worked.{g, gFalling, onFace}
 use Rattle.section.specs.Sections.{countedFrom, total, lowest, highest, sectionOf}
 use Rattle.section.specs.Tests.{carries}
 use Rattle.limits.specs.Causes.{some}
-use Rattle.limits.specs.Refusals.{panelRefusal}
+use Rattle.limits.specs.Refusals.{panelRefusal, refusalTo12}
 use Rattle.limits.specs.declared.BuildAnswer.the-variants.{Same, Different}
 use Rattle.limits.specs.Answers.{compared, buildAnswer}
 
 pub g-accepted : panelRefusal (g 43056) ≡ 0
 unfolding panelRefusal some lamellaeOf thickness countedFrom total lowest highest sectionOf carries
 g-accepted = refl
+
+-- with M 43,057 it meets 13 and no line above it: what is asked of a panel that may still fail at depth 0 is said of one
+pub g-fails-at-zero : (refusalTo12 (g 43057) ≡ 0) × (panelRefusal (g 43057) ≡ 13)
+unfolding panelRefusal refusalTo12 some lamellaeOf thickness countedFrom total lowest highest sectionOf carries
+g-fails-at-zero = (refl, refl)
 
 -- under another moment: the same build
 pub g-same : buildAnswer (g 3000) (g 0) ≡ Same

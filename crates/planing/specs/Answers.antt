@@ -26,8 +26,8 @@ cutBehind p tenths behind = record { place = placeOn (p .face) (p .count) behind
 abbrev pub lowering : Panel → Cut → Bool
 lowering p c = allowed p c && lowers p c
 
--- behind how many others the first lamella from the fire stands that such a cut of so many tenths may be taken off; the count where there
--- is none
+-- of the lamellae off which so many tenths may be taken and lower the grade, behind how many others the nearest to the fire stands; the
+-- count where there is none
 unfoldable pub firstBehind : Panel → ℕ → ℕ
 firstBehind p tenths = least (λ (behind : ℕ). lowering p (cutBehind p tenths behind)) (p .count)
 
@@ -35,7 +35,7 @@ firstBehind p tenths = least (λ (behind : ℕ). lowering p (cutBehind p tenths 
 abbrev pub mostCut : ℕ
 mostCut = thickest Wood - leastKept
 
--- the least tenths for which there is one; above `mostCut` where there is none
+-- the least tenths for which there is one; above `mostCut` where there are none
 unfoldable pub leastTenths : Panel → ℕ
 leastTenths p = least (λ (tenths : ℕ). ltb (firstBehind p tenths) (p .count)) (suc mostCut)
 

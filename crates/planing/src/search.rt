@@ -11,7 +11,8 @@ ghost use Rattle.limits.specs.Refusals.{panelRefusal};
 ghost use Rattle.ratings.specs.Answers.{reiGrade};
 ghost use Rattle.planing.specs.Answers.{firstBehind, mostCut, planingOf};
 
-// Behind how many others the first lamella from the fire stands that such a cut may be taken off; the count where there is none.
+// Behind how many others the nearest lamella to the fire stands off which so many tenths may be taken and lower the grade; the count where
+// there is none.
 fn first_behind(p: Panel, grade: Grade, tenths: u16) -> usize
     requires { ⌜ (panelRefusal p ≡ 0) × (grade ≡ reiGrade p) ⌝ }
     requires { ⌜ (0 < tenths) × (tenths ≤ mostCut) ⌝ }
