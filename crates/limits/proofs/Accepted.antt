@@ -144,7 +144,7 @@ pub accepted-to12 : (p : Panel) → panelRefusal p ≡ 0 → refusalTo12 p ≡ 0
 unfolding panelRefusal refusalTo12
 accepted-to12 p e = open-both (downTo 12 (panelLines p)) (line 13 (badSection p) ∷ []) tt e .0
 
--- where they turn a panel not back, line 13 decides
+-- where they do not turn a panel back, line 13 decides
 pub section-decides : (p : Panel) → refusalTo12 p ≡ 0 → panelRefusal p ≡ pick (badSection p) 13 0
 unfolding panelRefusal refusalTo12
 section-decides p e = sym (open-above (downTo 12 (panelLines p)) (line 13 (badSection p) ∷ []) tt refl e refl)

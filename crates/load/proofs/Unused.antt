@@ -3,14 +3,13 @@ use Prim.Native.Nat.{ℕ}
 use mathlib.Core.Path.{_≡_}
 use Rattle.panel.specs.declared.Panel.{Panel}
 use Rattle.panel.specs.Lamellae.{SameUsed}
-use Rattle.panel.proofs.Turning.{least-same, every-same}
+use Rattle.panel.proofs.Turning.{least-same}
 use Rattle.section.specs.Tests.{depthPasses}
 use Rattle.limits.specs.Lines.{answer}
 use Rattle.limits.proofs.Unused.{refusal-unused, passes-same}
 use Rattle.charring.proofs.Unused.{tenths-same, minute-refusal-same}
 use Rattle.load.specs.Failure.{EveryTenthPasses, TimePasses}
 use Rattle.load.specs.LoadMinute.{everyFrom, timeTest, wholePart, loadMinute, printedLoad, loadSeconds, printedLoadSeconds, minutesIn, secondsOver}
-use Rattle.load.specs.Lasting.{lasts}
 use Rattle.load.specs.Answers.{loadAnswer, loadTimeAnswer, reserveOf, reserveAnswer}
 use Rattle.load.specs.declared.LoadAnswer.the-variants.{Minute, Refused}
 use Rattle.load.specs.declared.LoadTimeAnswer.{LoadTimeAnswer}
@@ -23,12 +22,9 @@ depth-passes-same p q h i depth = passes-same p q h depth i
 pub time-passes-same : (p q : Panel) → SameUsed p q → TimePasses p ≡ TimePasses q
 time-passes-same p q h = λ i n m. EveryTenthPasses (depth-passes-same p q h i) (tenths-same p q h n m i)
 
-time-test-same : (p q : Panel) → SameUsed p q → timeTest p ≡ timeTest q
-unfolding timeTest
-time-test-same p q h = λ i n m. everyFrom (depth-passes-same p q h i) 0 (tenths-same p q h n m i)
-
 whole-part-same : (unit : ℕ) (p q : Panel) → SameUsed p q → wholePart (timeTest p) unit ≡ wholePart (timeTest q) unit
-whole-part-same unit p q h = λ i. wholePart (time-test-same p q h i) unit
+unfolding timeTest
+whole-part-same unit p q h = λ i. wholePart (λ (n m : ℕ). everyFrom (depth-passes-same p q h i) 0 (tenths-same p q h n m i)) unit
 
 pub printed-load-same : (p q : Panel) → SameUsed p q → printedLoad p ≡ printedLoad q
 unfolding loadMinute
@@ -37,10 +33,6 @@ printed-load-same = least-same loadMinute (whole-part-same 1)
 pub printed-seconds-same : (p q : Panel) → SameUsed p q → printedLoadSeconds p ≡ printedLoadSeconds q
 unfolding loadSeconds
 printed-seconds-same = least-same loadSeconds (whole-part-same 60)
-
-pub lasts-same : (p q : Panel) → SameUsed p q → (minute : ℕ) → lasts p minute ≡ lasts q minute
-unfolding lasts
-lasts-same p q h minute = every-same (λ fire. timeTest fire minute 1) (λ a b same i. time-test-same a b same i minute 1) p q h
 
 module _ (p q : Panel) (h : SameUsed p q) where
   pub load-unused : loadAnswer p ≡ loadAnswer q

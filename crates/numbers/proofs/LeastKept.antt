@@ -10,15 +10,6 @@ use Rattle.numbers.specs.Least.{least}
 abbrev next : (ℕ → Bool) → ℕ → Bool
 next test n = test (suc n)
 
-pub least-within : (test : ℕ → Bool) (bound : ℕ) → least test bound ≤ bound
-unfolding least
-least-within test zero = omega arith
-least-within test (suc bound) = go (test 0) (least-within (next test) bound)
-  where
-    go : (b : Bool) → least (next test) bound ≤ bound → pick b 0 (suc (least (next test) bound)) ≤ suc bound
-    go true h = omega arith
-    go false h = omega arith
-
 pub least-keeps : (test : ℕ → Bool) (bound : ℕ) → least test bound < bound → test (least test bound) ≡ true
 unfolding least
 least-keeps test zero h = absurd (let z : ⊥ = omega arith in z)

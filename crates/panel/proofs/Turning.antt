@@ -114,17 +114,6 @@ module _ (Alike : Panel → Panel → Type 0) (faces : (p q : Panel) → Alike p
       → leastOf f (fires p) ≡ leastOf f (fires q)
   least-alike f same p q h = ap (λ (face : ℕ). leastOf f (firesOn face p)) (faces p q h) ∙ least-on f same (q .face) p q h
 
-  every-on :
-      (test : Panel → Bool) → ((p q : Panel) → Alike p q → test p ≡ test q) → (face : ℕ) (p q : Panel) → Alike p q
-      → inEvery test (firesOn face p) ≡ inEvery test (firesOn face q)
-  every-on test same zero p q h = same p q h
-  every-on test same (suc zero) p q h = same (turned p) (turned q) (turns p q h)
-  every-on test same (suc (suc face)) p q h = ap₂ (λ (a b : Bool). a && b) (same p q h) (same (turned p) (turned q) (turns p q h))
-
-  pub every-alike : (test : Panel → Bool) → ((p q : Panel) → Alike p q → test p ≡ test q) → (p q : Panel) → Alike p q
-      → inEvery test (fires p) ≡ inEvery test (fires q)
-  every-alike test same p q h = ap (λ (face : ℕ). inEvery test (firesOn face p)) (faces p q h) ∙ every-on test same (q .face) p q h
-
 -- UNUSED PLACES do not matter: turned panels have none that are not 0
 pub turned-same : (p q : Panel) → SameUsed p q → turned p ≡ turned q
 turned-same = unused turned (λ p. ap (λ (ls : List Lamella). withLamellae p (reverse ls)) (lamellae-cleared p))
@@ -138,11 +127,6 @@ shown-same = shown-alike SameUsed face-same (λ p q h. ap cleared (turned-same p
 pub least-same :
     (f : Panel → ℕ) → ((p q : Panel) → SameUsed p q → f p ≡ f q) → (p q : Panel) → SameUsed p q → leastOf f (fires p) ≡ leastOf f (fires q)
 least-same = least-alike SameUsed face-same (λ p q h. ap cleared (turned-same p q h))
-
-pub every-same :
-    (test : Panel → Bool) → ((p q : Panel) → SameUsed p q → test p ≡ test q) → (p q : Panel) → SameUsed p q
-    → inEvery test (fires p) ≡ inEvery test (fires q)
-every-same = every-alike SameUsed face-same (λ p q h. ap cleared (turned-same p q h))
 
 -- PANELS OF THE SAME BUILD are so from either face
 pub turned-build : (a b : Panel) → SameBuild a b → SameBuild (turned a) (turned b)

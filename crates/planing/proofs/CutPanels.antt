@@ -65,7 +65,7 @@ cut-to12 p c e a =
     accepted-iff (downTo 12 (panelLines (cutPanel p c))) tt .1
     (refl, (none 2, (none 16, (none 3, (none 4, (none 5, (refl, (none 7, (none 8, (none 9, (count, (good, (cut-along p c (none 12), tt)))))))))))))
 
--- THE LAW: "an allowed cut of an accepted panel meets no line but 13"
+-- THE LAW: an allowed cut of an accepted panel meets no line but 13
 pub cut-meets : (p : Panel) (c : Cut) → panelRefusal p ≡ 0 → allowed p c ≡ true
     → (panelRefusal (cutPanel p c) ≡ 0) ⊎ (panelRefusal (cutPanel p c) ≡ 13)
 cut-meets p c e a = go (badSection (cutPanel p c)) (section-decides (cutPanel p c) (cut-to12 p c e a))

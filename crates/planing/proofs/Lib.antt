@@ -7,6 +7,6 @@ pub mod Unused
 -- Whether a grade is lowered needs no minute.
 pub mod Lowering
 -- The search finds what the paper asks for.
-pub mod Ranks
+pub mod FromFire
 pub mod Searching
 pub mod Planing

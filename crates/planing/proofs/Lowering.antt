@@ -1,4 +1,4 @@
--- Whether a panel that no line above 13 turns back has less than a grade: "it does not pass through the grade's minute, or EI is below it".
+-- A panel that no line above 13 turns back has less than a grade where it does not pass through the grade's minutes, or EI is below them.
 use Prim.Native.Nat.{ℕ, _≤_, min}
 use mathlib.Core.Path.{_≡_, refl, sym, ap, _∙_}
 use mathlib.Core.Bool.{Bool, true, false, not}

@@ -22,7 +22,7 @@ use Rattle.planing.specs.Cuts.{Cut, cutPanel, allowed, lowers}
 use Rattle.planing.specs.LeastCut.{NearerOn, LoweringCut, IsLeastCut, NoneLowers, IsPlaning}
 use Rattle.planing.specs.Answers.{placeOn, cutBehind, lowering, firstBehind, mostCut, leastTenths, planingIf, planingOf, planingAnswer}
 use Rattle.planing.proofs.CutPanels.{cut-meets, allowed-within}
-use Rattle.planing.proofs.Ranks.{Behind, place-behind, nearer-fewer, none-nearer}
+use Rattle.planing.proofs.FromFire.{Behind, place-behind, nearer-fewer, none-nearer}
 
 lowering-means : (p : Panel) (c : Cut) → lowering p c ≡ true → LoweringCut p c
 lowering-means p c e = record { allowed = and-left (allowed p c) (lowers p c) e; lowers = and-right (allowed p c) (lowers p c) e }

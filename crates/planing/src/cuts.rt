@@ -1,4 +1,5 @@
 // A cut of one lamella, and whether it lowers the REI grade. No open calls: the panel must be accepted and the lamella one of its own.
+use crate::LEAST_KEPT;
 use grades::Grade;
 use layers::minutes::ei_minute_of;
 use load::lasting::lasts;
@@ -32,7 +33,7 @@ fn is_allowed(p: Panel, at: usize, tenths: u16) -> bool
     ensures { λ r. ⌜ r ≡ allowed p (record { place = suc at; tenths = tenths }) ⌝ }
 {
     let thicknesses = p.thicknesses;
-    100 + tenths <= thicknesses[at]
+    LEAST_KEPT + tenths <= thicknesses[at]
 }
 
 // The cut panel; its unused places are the panel's.

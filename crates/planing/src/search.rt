@@ -1,5 +1,6 @@
 // The least cut: by tenths of mm, and for each from the fire on. More taken off may raise EI again, so every amount is tried. No open calls:
 // the panel must be accepted.
+use crate::MOST_CUT;
 use crate::PlaningAnswer;
 use crate::cuts::index_behind;
 use crate::cuts::is_lowering;
@@ -33,7 +34,7 @@ pub(crate) fn least_cut(p: Panel, grade: Grade) -> PlaningAnswer
     ensures { λ r. ⌜ r ≡ planingOf p ⌝ }
 {
     let mut tenths: u16 = 1;
-    while tenths <= 500 {
+    while tenths <= MOST_CUT {
         let behind = first_behind(p, grade, tenths);
         if behind < p.count {
             return PlaningAnswer::PlaceAndTenths(index_behind(p, behind) as u8 + 1, tenths);

@@ -1,5 +1,5 @@
 -- `planing::cuts::index_behind` meets its contract: from either face the index is the place less 1. Assumes nothing.
-use Rattle.planing.proofs.Ranks.{first-face-place, last-face-place}
+use Rattle.planing.proofs.FromFire.{first-face-place, last-face-place}
 use borrow.Author.Needs.{needs}
 use native.Mathlib.Omega.{arith}
 use Rattle.planing.proofs.cuts.index_behind.Statement.{statement}
