@@ -26,7 +26,7 @@ GROUP = 300    # cases of one input
 FEW = 4        # cases of one input where each is many steps: a depth table, a section carried, a load minute, its seconds
 BUILT = 5      # lines that a case of test_panels prints
 MANY_STEPS = ("table", "carried", "card", "load", "seconds", "reserve", "loadgrade", "reigrade")
-CUTS = 25      # one case of `planing` for so many of the others: peer.py takes half a second for one
+CUTS = 10      # one case of `planing` for so many of the others: peer.py tries every cut
 
 
 def random_space(rng, record):
@@ -280,8 +280,8 @@ def case_at(call, group, line):
 
 
 def compare(run, place, call, seed, count):
-    done, program = 0, programs.program_of(call)
-    for group in pieces(call, cases(call, seed, count)):
+    drawn, done, program = list(cases(call, seed, count)), 0, programs.program_of(call)
+    for group in pieces(call, drawn):
         given, expected = programs.lines(call, group)
         wrong = run(place, program, given, expected)
         if wrong:
@@ -290,7 +290,7 @@ def compare(run, place, call, seed, count):
             print(f"{program} disagrees at\n  {programs.asked(call, case)}  peer:    {expected.split(chr(10))[at]}\n  program: {said[:3000]}")
             return False
         done += len(group)
-        if done % GROUP < len(group) or done == count:
+        if done % GROUP < len(group) or done == len(drawn):
             print(f"{call}: {done} agree", flush=True)
     return True
 
