@@ -1,5 +1,6 @@
 """check.py [N]: holds peer.py to the figures of documents 01 and 02 and of the notes on its readings, R and RS to their definition on the
-panels of test_cards, in either fire, and on N random ones, and the last face's fire to that of a panel recorded the other way round."""
+panels of test_cards, in either fire, and on N random ones, the last face's fire to that of a panel recorded the other way round, and cuts
+to the grades of the cut panels."""
 import argparse
 import random
 from fractions import Fraction
@@ -7,10 +8,11 @@ from itertools import chain
 
 import peer
 import random_records
-from make_cases import (A, ALONG, F, G, H, LONGEST, O, P, RECOVERS, SHORTEST, behind, clad, crossed, faced, falls, load_panels, one,
+from make_cases import (A, ALONG, F, G, H, LONGEST, O, P, RECOVERS, SHORTEST, SWITCHING, behind, clad, crossed, faced, falls, load_panels, one,
                         patched, plate, reading_cases, second_panels, second_walls, two, wall_panels, with_first_lamella,
                         with_length)
 from peer import Board, EACH_ALONE, FIRST_FACE, LAST_FACE
+from random_records import greatest_moment
 
 ROLES = ("protection", "insulation")
 
@@ -142,6 +144,24 @@ def check_load_minutes(count):
         peer.check_load_minute(random_records.any_face(rng, kinds[number % len(kinds)](rng)))
 
 
+def check_planing(count):
+    """The panel of which one tenth lowers, two do not and three do; and that a cut keeps the grade exactly when its own is not below, by R, EI
+    and the grade of both."""
+    same(peer.planing(SWITCHING), (0, (2, 1)))
+    same([peer.rei_grade(peer.planed(SWITCHING, 2, tenths)) for tenths in range(4)], [(0, 45), (0, 30), (0, 45), (0, 30)])
+    same([peer.planing(plate(150)._replace(moment=greatest_moment(plate(100)) + more)) for more in (0, 1)], [(0, None), (0, (1, 50))])
+    rng = random.Random("planing")
+    for _ in range(count):
+        panel = random_records.any_face(rng, random_records.thin_panel(rng))
+        place = rng.randrange(len(panel.lamellae)) + 1
+        most = panel.lamellae[place - 1][1] - peer.LEAST_KEPT
+        if most:
+            cut = peer.planed(panel, place, rng.randint(1, most))
+            refusal, minutes = peer.rei_grade(cut)
+            least = peer.rei_grade(panel)[1]
+            same(peer.keeps_grade(cut, least), refusal == 0 and minutes >= least)
+
+
 if __name__ == "__main__":
     words = argparse.ArgumentParser(description=__doc__)
     words.add_argument("count", metavar="N", type=int, nargs="?", default=400)
@@ -151,4 +171,5 @@ if __name__ == "__main__":
     check_versions()
     check_readings()
     check_load_minutes(count)
+    check_planing(count)
     print("the peer agrees")
