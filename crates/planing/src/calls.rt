@@ -1,11 +1,9 @@
 // The open call of this crate: it asks nothing of its caller.
 use crate::PlaningAnswer;
 use crate::search::least_cut;
-use grades::Grade;
-use layers::minutes::ei_minute_of;
 use limits::calls::panel_refusal;
-use load::minutes::load_minute_of;
 use panel::Panel;
+use ratings::rei::rei_grade_of;
 ghost use mathlib.Core.Path.{_≡_};
 ghost use Rattle.planing.specs.Answers.{planingAnswer};
 
@@ -17,7 +15,5 @@ pub fn planing(p: Panel) -> PlaningAnswer
     if n != 0 {
         return PlaningAnswer::Refused(n);
     }
-    let load = load_minute_of(p);
-    let ei = ei_minute_of(p) as u16;
-    least_cut(p, Grade::of_lower(load, ei))
+    least_cut(p, rei_grade_of(p))
 }

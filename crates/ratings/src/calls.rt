@@ -1,4 +1,5 @@
 // The open calls of this crate: they ask nothing of their caller.
+use crate::rei::rei_grade_of;
 use grades::Grade;
 use grades::GradeAnswer;
 use layers::minutes::ei_minute_of;
@@ -40,7 +41,5 @@ pub fn rei_grade(p: Panel) -> GradeAnswer
     if n != 0 {
         return GradeAnswer::Refused(n);
     }
-    let load = load_minute_of(p);
-    let ei = ei_minute_of(p) as u16;
-    GradeAnswer::Of(Grade::of_lower(load, ei))
+    GradeAnswer::Of(rei_grade_of(p))
 }
