@@ -11,15 +11,19 @@ use Rattle.numbers.specs.Choice.{outside}
 
 pub IsTrue-true : (a : Bool) → T a → a ≡ true
 IsTrue-true true t = refl
+IsTrue-true false t = elim t [ ]
 
 pub IsTrue-false : (a : Bool) → T (not a) → a ≡ false
 IsTrue-false false t = refl
+IsTrue-false true t = elim t [ ]
 
 pub IsTrue-left : (a b : Bool) → T (a && b) → T a
 IsTrue-left true b t = tt
+IsTrue-left false b t = elim t [ ]
 
 pub IsTrue-right : (a b : Bool) → T (a && b) → T b
 IsTrue-right true b t = t
+IsTrue-right false b t = elim t [ ]
 
 -- no test is both
 pub not_both : (a : Bool) → a ≡ true → a ≡ false → ⊥

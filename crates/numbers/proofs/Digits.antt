@@ -56,6 +56,8 @@ length_join [] [] h = refl
 length_join (zero ∷ ws) vs h = absurd h
 length_join (suc w ∷ ws) (v ∷ vs) h =
     length-append (bytes (suc w) v) (join ws vs) ∙ ap₂ (λ (m n : ℕ). m + n) (length_bytes (suc w) v) (length_join ws vs h)
+length_join [] (v ∷ vs) h = elim h [ ]
+length_join (suc w ∷ ws) [] h = elim h [ ]
 
 -- the numbers written are the numbers read
 pub fields_join : (ws vs l : List ℕ) → Filled ws vs → fields ws (join ws vs ++ l) 0 ≡ vs
@@ -66,6 +68,8 @@ fields_join (suc w ∷ ws) (v ∷ vs) l h =
     ap (λ (b : List ℕ). fields (suc w ∷ ws) b 0) (append_assoc (bytes (suc w) v) (join ws vs) l)
     ∙ ap₂ (λ (x : ℕ) (xs : List ℕ). x ∷ xs) (number_bytes w v (join ws vs ++ l))
     (ap (fields ws (bytes (suc w) v ++ (join ws vs ++ l))) e ∙ fields_after ws (bytes (suc w) v) (join ws vs ++ l) 0 ∙ fields_join ws vs l h)
+fields_join [] (v ∷ vs) l h = elim h [ ]
+fields_join (suc w ∷ ws) [] l h = elim h [ ]
 
 -- Writing what was read
 
