@@ -15,14 +15,14 @@ mod wood_protection;
 pub const PARTS_PER_MINUTE: u32 = 100;
 
 // What a layer is counted for: all layers but the last protect, the last insulates.
-#[derive(Drop)]
+#[derive(Clone, Copy)]
 pub enum Role {
     Protection,
     Insulation,
 }
 
 // A basic time in hundredths of a minute, or the refusal's number.
-#[derive(Drop)]
+#[derive(Clone, Copy)]
 pub enum TimeAnswer {
     Time(u32),
     Refused(u8),

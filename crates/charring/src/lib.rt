@@ -12,7 +12,7 @@ use limits::LAST_MINUTE;
 const ENTRIES: usize = LAST_MINUTE as usize + 1;
 
 // The phase of the char. A fast phase carries the char depth where it ends, in hundred-thousandths of mm.
-#[derive(Drop)]
+#[derive(Clone, Copy)]
 pub enum Phase {
     Untouched,
     UnderCladding,
@@ -21,21 +21,21 @@ pub enum Phase {
 }
 
 // The phase at a minute, or the refusal's number.
-#[derive(Drop)]
+#[derive(Clone, Copy)]
 pub enum PhaseAnswer {
     At(Phase),
     Refused(u8),
 }
 
 // A depth at a minute, or the refusal's number.
-#[derive(Drop)]
+#[derive(Clone, Copy)]
 pub enum DepthAnswer {
     Depth(u32),
     Refused(u8),
 }
 
 // The depth table is filled, or the refusal's number.
-#[derive(Drop)]
+#[derive(Clone, Copy)]
 pub enum TableAnswer {
     Filled,
     Refused(u8),
@@ -43,7 +43,7 @@ pub enum TableAnswer {
 
 // What is the same at every minute: t_ch and t_f, the rates under cladding and after it, the depth at t_f, where the first run
 // ends, the back face, and when k0 is 1. Times in thousandths of a minute, lengths in picometres.
-#[derive(Drop)]
+#[derive(Clone, Copy)]
 pub struct Fire {
     pub start: u64,
     pub failure: u64,
@@ -57,7 +57,7 @@ pub struct Fire {
 
 // A place on the way through the panel: the depth and where its run ends, in picometres; and times q what is left of the time in twice what
 // β alone adds, and what has charred on the way, in half picometres.
-#[derive(Drop)]
+#[derive(Clone, Copy)]
 pub(crate) struct Place {
     pub from: u64,
     pub end: u64,

@@ -6,7 +6,7 @@ mod lines;
 pub const CARD_MOST: usize = 249;
 
 // The number of bytes written, or the refusal's number.
-#[derive(Drop)]
+#[derive(Clone, Copy)]
 pub enum CardAnswer {
     Written(usize),
     Refused(u8),

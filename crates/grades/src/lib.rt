@@ -6,13 +6,13 @@ ghost use Rattle.limits.specs.Causes.{last_minute};
 ghost use Rattle.grades.specs.Grades.{grade_of, rei_of};
 
 // A grade, in minutes; 0 below the least.
-#[derive(Drop)]
+#[derive(Clone, Copy)]
 pub struct Grade {
     pub minutes: u16,
 }
 
 // A grade, or the refusal's number.
-#[derive(Drop)]
+#[derive(Clone, Copy)]
 pub enum GradeAnswer {
     Of(Grade),
     Refused(u8),

@@ -5,7 +5,7 @@ mod step;
 mod sums;
 
 // A number of minutes or of hundredths of a minute, or the refusal's number.
-#[derive(Drop)]
+#[derive(Clone, Copy)]
 pub enum LayerAnswer {
     Value(u32),
     Refused(u8),

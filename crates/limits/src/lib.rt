@@ -11,7 +11,7 @@ use section::Section;
 pub const LAST_MINUTE: u16 = 360;
 
 // What a record's bytes say beside its panel: which of lines 1 and 6 fit, and whether line 10 fits by the record's length.
-#[derive(Drop)]
+#[derive(Clone, Copy)]
 pub struct ByteFaults {
     pub length: bool,
     pub board_count: bool,
@@ -19,14 +19,14 @@ pub struct ByteFaults {
 }
 
 // The section at a depth with whether the depth passes, or the refusal's number.
-#[derive(Drop)]
+#[derive(Clone, Copy)]
 pub enum SectionAnswer {
     At(Section, bool),
     Refused(u8),
 }
 
 // Whether two panels are the same build, or the refusal's number.
-#[derive(Drop)]
+#[derive(Clone, Copy)]
 pub enum BuildAnswer {
     Same,
     Different,

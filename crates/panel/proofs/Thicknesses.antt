@@ -1,7 +1,7 @@
 -- Laws of materials: boards of no wood-based type are gypsum, and no layer is thinner than 9.0 mm or thicker than 60.0.
 use Prim.Native.Nat.{◌≤◌}
 use mathlib.Core.Path.{◌≡◌, subst}
-use mathlib.Core.Bool.{Bool, false, ◌||◌}
+use mathlib.Core.Bool.{Bool, false}
 use lib.Dec.{T, eqb, leb, leb→le}
 use Rattle.numbers.proofs.Booleans.{or_none}
 use Rattle.numbers.proofs.EveryCase.{every_case, every_case_lem}

@@ -1,5 +1,7 @@
 // The panel of document 01: lamellae, boards and load, the face that the fire is on, and what follows from the boards alone, the start
 // of charring. A panel is plain data: what limits it keeps is the matter of the crate `limits`.
+#![tactic(auto)]
+
 pub mod boards;
 pub mod faces;
 pub mod materials;
@@ -9,7 +11,7 @@ pub mod timber;
 pub const WHOLE_JOINT: u8 = 100;
 
 // What a layer is made of: boards of gypsum, OSB or particle board, and lamellae of solid wood.
-#[derive(Drop)]
+#[derive(Clone, Copy)]
 pub enum Material {
     Gypsum,
     Wood,
@@ -18,7 +20,7 @@ pub enum Material {
 }
 
 // One board. The type is its ASCII letter, the thickness in tenths of mm, the joint coefficient in hundredths.
-#[derive(Drop)]
+#[derive(Clone, Copy)]
 pub struct Board {
     pub kind: u8,
     pub thickness: u16,
@@ -26,7 +28,7 @@ pub struct Board {
 }
 
 // The boards over the panel, the outer one first.
-#[derive(Drop)]
+#[derive(Clone, Copy)]
 pub enum Cladding {
     Unclad,
     One(Board),
@@ -37,7 +39,7 @@ pub enum Cladding {
 // hundredths of mm/min, the strength in tenths of N/mm², the moment in N·m per metre of width, the failure time in thousandths of a
 // minute. Lamella i, from the first face, has its direction (0 across, 1 along) and its thickness (tenths of mm) at place i of the
 // arrays. Places from `count` on are unused.
-#[derive(Drop)]
+#[derive(Clone, Copy)]
 pub struct Panel {
     pub version: u8,
     pub face: u8,

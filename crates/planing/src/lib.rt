@@ -11,7 +11,7 @@ pub(crate) const MOST_CUT: u16 = 500;
 
 // The least cut that lowers the REI grade: the lamella's place in the record, from 1, and the tenths of mm taken off it; or that no cut
 // does; or the refusal's number.
-#[derive(Drop)]
+#[derive(Clone, Copy)]
 pub enum PlaningAnswer {
     PlaceAndTenths(u8, u16),
     NoCut,

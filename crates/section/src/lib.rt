@@ -6,7 +6,7 @@ pub mod sums;
 pub mod test;
 
 // N, P and Q of the counted parts (tenths of mm and their powers), and their outermost ends; all 0 where nothing is counted.
-#[derive(Drop)]
+#[derive(Clone, Copy)]
 pub struct Section {
     pub n: u64,
     pub p: u64,
@@ -17,7 +17,7 @@ pub struct Section {
 
 // The section carried to a depth. Of the lamellae from the exposed face `place` are begun, the last of them ends at `end`, and the next
 // along one begins at `next`, 0 where there is none.
-#[derive(Drop)]
+#[derive(Clone, Copy)]
 pub struct Carried {
     pub section: Section,
     pub depth: u64,
