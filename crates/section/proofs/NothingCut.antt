@@ -20,6 +20,7 @@ chain_forward (more {x = y} after forward c) x (Memᴰ.head e) =
     let h : y.from ≤ y.to = omega arith in
     rw e record { n = h; p = mul-le-mul h h; q = mul-le-mul (mul-le-mul h h) h }
 chain_forward (more after forward c) x (Memᴰ.tail m) = chain_forward c x m
+chain_forward (none {top = top} {bottom = bottom} _) x x11 = elim x11 [ ]
 
 -- 2N·t ≤ P where no part begins before t
 total_above : (t : ℕ) {top bottom : ℕ} {xs : List Part} → Chain top xs bottom → t ≤ top

@@ -1,6 +1,8 @@
 // The remaining section of a panel at a depth (document 01, "Remaining section"): the counted parts, N, P, Q, lo and hi of
 // them, worked out at any depth or carried from one to the next, and whether the depth passes. It works on panels that keep the limits;
 // the crate `limits` checks them.
+#![tactic(auto)]
+
 pub mod carry;
 pub mod sums;
 pub mod test;
