@@ -24,13 +24,13 @@ def known_names():
 
 
 # Words of the language and its library, of commands and of printed lines.
-OTHER = set("""ltb leb eqb not elim take drop length replicate getD u32 A B c n q lo hi e S t h N P Q M R RS EI REI CARD CHAR REFUSED read write run
+OTHER = set("""ltb leb eqb not elim take drop length replicate get_or u32 A B c n q lo hi e S t h N P Q M R RS EI REI CARD CHAR REFUSED read write run
 refl specs proofs src""".split())
 
 
 def parts(quoted):
     """The names in a quoted piece: `crate/File`, `crate::module::function`, `name`."""
-    if re.fullmatch(r"[\w·«»'-]+", quoted):
+    if re.fullmatch(r"[\w'-]+", quoted):
         return [quoted]
     if re.fullmatch(r"\w+(?:::\w+)+", quoted):
         return quoted.split("::")
