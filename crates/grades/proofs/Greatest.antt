@@ -30,6 +30,7 @@ unfolding greatest_to
 greatest_most m (x ∷ gs) g (Memᴰ.head e) h =
     rw (le-leb x m (omega arith)) (omega arith)
 greatest_most m (x ∷ gs) g (Memᴰ.tail i) h = le_trans (greatest_most m gs g i h) (le-max_right (pick (leb x m) x 0) (greatest_to m gs))
+greatest_most m [] g x'' h = elim x'' [ ]
 
 -- it is a number of the list, or 0
 pub greatest_member : (m : ℕ) (gs : List ℕ) → (greatest_to m gs ≡ 0) ⊎ Memᴰ (greatest_to m gs) gs

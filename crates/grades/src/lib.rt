@@ -1,4 +1,6 @@
 // Grades of fire resistance (document 01, "Layer times"): the constants, the grade of a minute, and REI.
+#![tactic(auto)]
+
 pub mod calls;
 
 ghost use Rattle.std.specs.Prelude.{◌≡◌, ◌≤◌};
