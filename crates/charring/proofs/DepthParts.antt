@@ -68,6 +68,7 @@ reached a back (s ∷ ss) x q (next from deeper exact c) h =
     numbers q a b f t d z g e k h =
         let l : q * (a + f + t) ≡ q * d = ap (λ (i : ℕ). q * i) (rw e at k) in
         omega arith
+reached a back [] x q on h = elim on [ ]
 
 -- the way is not at its end while the char is not at the back face
 pub way_not_over : (p : Panel) (n q : ℕ) → char_at p n q < 2 * q * back_face p → q * failure_of p ≤ 1000 * n

@@ -1,4 +1,6 @@
 // Charring behind cladding and bond lines (document 01, "Charring"): char depth, phase and effective depth at a time.
+#![tactic(auto)]
+
 pub mod calls;
 pub mod depths;
 pub mod fires;
