@@ -1,4 +1,6 @@
 // The panel record of documents 01 and 02: its layout, the reader and the writer, and the lines that turn a record back.
+#![tactic(auto)]
+
 pub mod calls;
 mod faults;
 mod layout;

@@ -1,0 +1,41 @@
+-- `record::writer::put_lamellae` meets its contract: after i turns the first i lamellae are stored.
+use Prim.Native.Nat.{ℕ, ◌+◌, ◌*◌}
+use Rattle.numbers.proofs.Lists.{then_put}
+use Rattle.numbers.specs.Bytes.{join}
+use Rattle.panel.proofs.Used.{length_lamellae_of}
+use Rattle.panel.specs.Lamellae.{lamella, lamellae_of}
+use Rattle.record.proofs.Lengths.{length_lamella_bytes, lamella_bytes_more}
+use Rattle.record.specs.Layouts.{lamella_widths, lamella_length, lamella_numbers, lamella_bytes}
+use lib.ListN.{length, get_or}
+use lib.Seq.{sets}
+use mathlib.Core.Path.{refl, sym, ap, ◌∙◌, ◌≡◌}
+use native.Mathlib.Numerals.{add-one}
+use native.Mathlib.Omega.{arith}
+use Rattle.record.proofs.writer.put_lamellae.Goals as goal
+
+pub loop-i-init : goal.loop-i-init
+unfolding lamellae_of lamella_bytes
+loop-i-init c = (omega arith, (refl, refl))
+
+pub loop-i-preserved : goal.loop-i-preserved
+unfolding lamellae_of
+loop-i-preserved c =
+    let put = c.put_lamella in
+    let l = c in
+    let args = l.args in
+    let gs = args.directions in
+    let ts = args.thicknesses in
+    let i = l.loop-i.i in
+    let xs = lamellae_of gs ts i in
+    let x = lamella (get_or gs i 0) (get_or ts i 0) in
+    let e : args.at + lamella_length * i ≡ args.at + length (lamella_bytes xs) = omega (arith, length_lamella_bytes xs, length_lamellae_of gs ts i) in (
+      omega arith,
+      (
+        put.auto.out ∙ l.loop-i.invariant.1.0,
+        then_put args.out.now l.loop-i.out put.new.out args.at (lamella_bytes xs) (args.at + lamella_length * i)
+            (join lamella_widths (lamella_numbers x))
+            l.loop-i.invariant.1.1 e put.ensures
+            ∙ ap (sets args.out.now args.at) (sym (lamella_bytes_more xs x)
+            ∙ ap (λ (k : ℕ). lamella_bytes (lamellae_of gs ts k)) (sym (add-one i))),
+      ),
+    )

@@ -1,0 +1,21 @@
+-- `record::writer::put_two` meets its contract: the second board begins where the first ends.
+-- Assumes nothing.
+use Prim.Native.Nat.{ℕ, ◌+◌}
+use Rattle.numbers.proofs.Lists.{then_put}
+use Rattle.numbers.specs.Bytes.{join}
+use Rattle.record.specs.Layouts.{board_widths, board_length, board_numbers, board_bytes}
+use mathlib.Core.List.{List}
+use mathlib.Core.Path.{refl}
+use Rattle.record.proofs.writer.put_two.Goals as goal
+
+pub returns : goal.returns
+unfolding board_bytes
+returns c =
+    let c6 = c in
+    let c9 = c6 in
+    let l = c9.args.out.now in
+    let at = c9.args.at in
+    let v₁ : List ℕ = join board_widths (board_numbers c9.args.outer) in
+    then_put l c6.put_board.new.out c.put_board-2.new.out at v₁ (at + board_length)
+    (join board_widths (board_numbers c9.args.inner))
+    c6.put_board.ensures refl c.put_board-2.ensures
