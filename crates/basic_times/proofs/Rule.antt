@@ -1,6 +1,6 @@
 -- "Each entry is the largest whole number whose fifth or tenth power keeps to the rule", for every thickness of each table: one law for
 -- any rule, and that no rule gives more than `longest_time`.
-use Prim.Native.Nat.{ℕ, suc, ◌*◌, ◌^◌, ◌<◌, ◌≤◌}
+use Prim.Native.Nat.{zero, ℕ, suc, ◌*◌, ◌^◌, ◌<◌, ◌≤◌}
 use mathlib.Core.Path.{◌≡◌, ap, ◌∙◌}
 use mathlib.Core.Bool.{Bool, true, false, not, ◌&&◌}
 use native.Mathlib.Omega.{arith}
@@ -43,6 +43,7 @@ keeps_zero r h pos =
   where
     none : (root scale : ℕ) → 0 < root → 0 ^ root * scale ≡ 0
     none (suc root) scale pos = ap (λ (k : ℕ). k * scale) (pow-succ' 0 root ∙ zero-mul (0 ^ root)) ∙ zero-mul scale
+    none zero scale pos = elim pos [ ]
 
 -- up to the thickness `top` no number above `longest_time` keeps to the rule
 abbrev pub bounded : Rule → ℕ → Bool
