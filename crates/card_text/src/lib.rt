@@ -1,3 +1,5 @@
 // Text in lent bytes: a line of a head and numbers, as document 01's printed card has them.
 // No function here knows of cards or panels.
+#![tactic(auto)]
+
 pub mod text;
