@@ -43,6 +43,11 @@ on_tenth_lem p n q k t =
   where
     each : (a b c d e : Bool) → T (a && b && c && d && e) → T a × T b × T c × T d × T e
     each true true true true true t = (tt, tt, tt, tt, tt)
+    each false b c d e t = elim t [ ]
+    each true false c d e t = elim t [ ]
+    each true true false d e t = elim t [ ]
+    each true true true false e t = elim t [ ]
+    each true true true true false t = elim t [ ]
 
 record LastDepth (passes : ℕ → Bool) (k : ℕ) : Type 0 where
   every : EveryTenthPasses passes k

@@ -1,5 +1,7 @@
 // R, the load minute (document 01, "Remaining section"): the failure time's whole minutes, the same in minutes and seconds, and the reserve
 // against a wanted minute.
+#![tactic(auto)]
+
 pub mod calls;
 pub mod lasting;
 pub mod minutes;

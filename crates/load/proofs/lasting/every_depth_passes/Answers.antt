@@ -1,0 +1,193 @@
+-- `load::lasting::every_depth_passes` meets its contract: every depth to `reached` passes, and a single depth that does not pass decides.
+use Prim.Native.Nat.{ℕ, ◌+◌, ◌≤◌, ◌<◌}
+use Rattle.load.proofs.LoadMinutes.{every_tenth, not_true_false}
+use Rattle.load.specs.Failure.{EveryTenthPasses}
+use Rattle.load.specs.LoadMinute.{every_from}
+use Rattle.numbers.proofs.Booleans.{not_both}
+use Rattle.numbers.specs.Choice.{pick}
+use Rattle.panel.specs.Lamellae.{lamellae}
+use Rattle.panel.specs.Timber.{factor_of}
+use Rattle.panel.specs.declared.Panel.{Panel}
+use Rattle.section.proofs.Chains.{counted_bounds}
+use Rattle.section.proofs.NothingCut.{nothing_cut}
+use Rattle.section.proofs.Shrinking.{between_carries}
+use Rattle.section.specs.Between.{carries_between}
+use Rattle.section.specs.NothingCut.{NothingCut}
+use Rattle.section.specs.Tests.{carries, section_at, depth_passes, SectionFits, SectionBounds}
+use Rattle.section.specs.declared.Section.{Section}
+use borrow.Author.Tests.{eqb-true, eq-eqb, ne_eqb}
+use lib.Dec.{eqb}
+use mathlib.Core.Bool.{Bool, true, false}
+use mathlib.Core.Logic.{◌⊎◌, inl, inr, ⊎_elim}
+use mathlib.Core.Path.{◌≡◌, refl, sym, ap, ap₂, ◌∙◌}
+use native.Mathlib.Decide.{dec_le}
+use native.Mathlib.Omega.{arith}
+use Rattle.load.proofs.lasting.every_depth_passes.Goals as goal
+use Rattle.load.proofs.lasting.every_depth_passes.Goals.{After-lesser-to, Joined-single, then-single, else-single}
+
+-- the section at a depth keeps the bounds
+bounds : (p : Panel) (s : Section) (depth : ℕ) → SectionFits p → s ≡ section_at p depth → SectionBounds s × NothingCut s
+bounds p s depth fits at =
+    (rw at (counted_bounds depth (lamellae p) fits.thickness), rw at (nothing_cut depth (lamellae p)))
+
+-- its test is that of the depth
+tested : (p : Panel) (s : Section) (factor depth : ℕ) (b : Bool) → s ≡ section_at p depth → factor ≡ factor_of p.bond
+    → b ≡ carries factor p.moment p.strength s → b ≡ depth_passes p depth
+tested p s factor depth b at f e = e ∙ ap₂ (λ (x : ℕ) (t : Section). carries x p.moment p.strength t) f at
+
+-- where the range that is tested begins: a single depth is tested by itself
+abbrev range_start : ℕ → ℕ → ℕ
+range_start reached to = pick (eqb to (reached + 1)) to reached
+
+edge_at :
+    (p : Panel) (edge deep shallow : Section) (reached to : ℕ) → deep ≡ section_at p to → shallow ≡ section_at p reached
+    → ((eqb to (reached + 1) ≡ true) × (edge ≡ deep)) ⊎ ((eqb to (reached + 1) ≡ false) × (edge ≡ shallow))
+    → edge ≡ section_at p (range_start reached to)
+edge_at p edge deep shallow reached to d s came =
+    ⊎_elim
+    (λ (h : (eqb to (reached + 1) ≡ true) × (edge ≡ deep)).
+    h.1 ∙ d ∙ ap (λ (t : Bool). section_at p (pick t to reached)) (sym h.0))
+    (λ (h : (eqb to (reached + 1) ≡ false) × (edge ≡ shallow)).
+    h.1 ∙ s ∙ ap (λ (t : Bool). section_at p (pick t to reached)) (sym h.0))
+    came
+
+-- it leaves no depth out
+range_next : (reached to depth : ℕ) → reached < depth → depth ≤ to → range_start reached to ≤ depth
+range_next reached to depth l u = go (eqb to (reached + 1)) refl
+  where
+    go : (t : Bool) → eqb to (reached + 1) ≡ t → pick t to reached ≤ depth
+    go true e = omega (arith, eqb-true to (reached + 1) e)
+    go false e = omega arith
+
+-- the test of a range
+module _ (p : Panel) (edge deep : Section) (factor reached to : ℕ) (b : Bool) (from : edge ≡ section_at p (range_start reached to))
+    (last : deep ≡ section_at p to) (f : factor ≡ factor_of p.bond) (e : b ≡ carries_between factor p.moment p.strength edge deep) where
+  by-depths : b ≡ carries_between (factor_of p.bond) p.moment p.strength (section_at p (range_start reached to)) (section_at p to)
+  by-depths = e ∙ λ i. carries_between (f i) p.moment p.strength (from i) (last i)
+
+  -- where it holds every depth to its end passes
+  passes_on : EveryTenthPasses (depth_passes p) reached → b ≡ true → EveryTenthPasses (depth_passes p) to
+  passes_on before h depth u = go (dec_le depth reached)
+    where
+      go : Dec (depth ≤ reached) → depth_passes p depth ≡ true
+      go (yes l) = before depth l
+      go (no l) =
+          between_carries (factor_of p.bond) p.moment p.strength (range_start reached to) depth to (lamellae p)
+          (range_next reached to depth (omega arith) u) u (sym by-depths ∙ h)
+
+  -- of a single depth it is the test of that depth
+  single-fails : eqb to (reached + 1) ≡ true → b ≡ false → depth_passes p to ≡ false
+  unfolding carries carries_between
+  single-fails one h =
+      let here : section_at p (range_start reached to) ≡ section_at p to = ap (λ (t : Bool). section_at p (pick t to reached)) one in
+      sym (by-depths ∙ ap (λ (s : Section). carries_between (factor_of p.bond) p.moment p.strength s (section_at p to)) here) ∙ h
+
+-- a depth that does not pass decides
+not_every : (passes : ℕ → Bool) (depth deepest : ℕ) → depth ≤ deepest → passes depth ≡ false → every_from passes 0 deepest ≡ false
+not_every passes depth deepest u e =
+    not_true_false (every_from passes 0 deepest) (λ t. not_both (passes depth) ((every_tenth passes deepest).0 t depth u) e)
+
+-- the next range goes on, and not past the deepest
+further : (c : After-lesser-to) → (c.loop-reached.reached < c.lesser-to.result) × (c.lesser-to.result ≤ c.args.deepest)
+further c =
+    let more = c.loop-reached.invariant.1.0 c.loop-reached-test.true in
+    let to = c.lesser-to.ensures in
+    (omega (arith, to.0), to.1.1)
+
+-- and begins at its edge
+edge_of : (c : Joined-single) → c.if-single.edge ≡ section_at c.args.p (range_start c.loop-reached.reached c.lesser-to.result)
+edge_of c =
+    let deep = c.section_in-deep in
+    let l = c.loop-reached in
+    edge_at c.args.p c.if-single.edge deep.result l.shallow l.reached _ deep.ensures l.invariant.1.1.1.0
+    (elim c.if-single.branch [
+      | then-single w ↦ inl (eq-eqb _ _ w.if-single.true, w.edge-is)
+      | else-single w ↦ inr (ne_eqb _ _ w.if-single.false, w.edge-is)
+    ])
+
+pub section_passes-requires : goal.section_passes-requires
+section_passes-requires c =
+    let factor = c.factor_of-factor in
+    let start = c in
+    let p = start.args.p in
+    let fits = start.requires.0 in
+    record {
+      factor_bound = factor.ensures.1;
+      moment_bound = fits.moment;
+      strength_bound = fits.strength;
+      section_bounds = bounds p c.section_in-shallow.result 0 fits c.section_in-shallow.ensures;
+    }
+
+pub returns-then-not-section_passes : goal.returns-then-not-section_passes
+returns-then-not-section_passes c =
+    let s = c.section_in-shallow in
+    let factor = c.factor_of-factor in
+    let start = c in
+    let passes = c.section_passes in
+    sym
+    (not_every (depth_passes start.args.p) 0 start.args.deepest (omega arith)
+    (sym (tested start.args.p s.result factor.result 0 passes.result s.ensures factor.ensures.0 passes.ensures)
+    ∙ c.if-not-section_passes.true))
+
+pub sections_pass-requires : goal.sections_pass-requires
+sections_pass-requires c =
+    let deep = c.section_in-deep in
+    let l = c in
+    let factor = l.factor_of-factor in
+    let start = l in
+    let p = start.args.p in
+    let fits = start.requires.0 in record {
+      factor_bound = factor.ensures.1;
+      moment_bound = fits.moment;
+      strength_bound = fits.strength;
+      section_bounds = bounds p c.if-single.edge _ fits (edge_of (goal.at.sections_pass-requires c).Joined-single);
+      section_bounds_2 = bounds p deep.result _ fits deep.ensures;
+    }
+
+pub loop-reached-preserved-then-sections_pass : goal.loop-reached-preserved-then-sections_pass
+loop-reached-preserved-then-sections_pass c =
+    let pass = c.sections_pass in
+    let deep = c.section_in-deep in
+    let to = c in
+    let l = to in
+    let factor = l.factor_of-factor in
+    let start = l in
+    let on = further (goal.at.loop-reached-preserved-then-sections_pass c).After-lesser-to in
+    let most = start.requires.1 in (
+      on.1,
+      (
+        λ h. omega (arith, on.0),
+        (
+          omega (arith, on.1),
+          (
+            deep.ensures,
+            passes_on start.args.p c.if-single.edge deep.result factor.result l.loop-reached.reached to.lesser-to.result
+                pass.result (edge_of (goal.at.loop-reached-preserved-then-sections_pass c).Joined-single) deep.ensures factor.ensures.0 pass.ensures l.loop-reached.invariant.1.1.1.1
+                c.if-sections_pass.true,
+          ),
+        ),
+      ),
+    )
+
+pub returns-then-single-2 : goal.returns-then-single-2
+returns-then-single-2 c =
+    let pass = c.sections_pass in
+    let deep = c.section_in-deep in
+    let to = c in
+    let l = to in
+    let factor = l.factor_of-factor in
+    let start = l in
+    let p = start.args.p in
+    sym
+    (not_every (depth_passes p) to.lesser-to.result start.args.deepest (further (goal.at.returns-then-single-2 c).After-lesser-to).1
+    (single-fails p c.if-single.edge deep.result factor.result l.loop-reached.reached to.lesser-to.result pass.result
+    (edge_of (goal.at.returns-then-single-2 c).Joined-single) deep.ensures factor.ensures.0 pass.ensures (eq-eqb _ _ c.if-single-2.true) c.if-sections_pass.false))
+
+pub returns : goal.returns
+returns c =
+    let l = c in
+    let start = l in
+    let p = start.args.p in
+    let i = l.loop-reached.invariant in
+    let end : l.loop-reached.reached ≡ start.args.deepest = omega (arith, i.0) in
+    sym ((every_tenth (depth_passes p) start.args.deepest).1 (λ d u. i.1.1.1.1 d (omega arith)))

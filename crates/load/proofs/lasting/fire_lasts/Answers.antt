@@ -1,0 +1,19 @@
+-- `load::lasting::fire_lasts` meets its contract: the depth at a time lies within the panel. Assumes nothing.
+use Rattle.charring.proofs.DepthBounds.{tenths_within}
+use Rattle.load.specs.LoadMinute.{every_from, time_test}
+use Rattle.section.specs.Tests.{depth_passes}
+use mathlib.Core.Path.{ap, ◌∙◌}
+use native.Mathlib.Omega.{arith}
+use Rattle.load.proofs.lasting.fire_lasts.Goals as goal
+
+pub every_depth_passes-requires : goal.every_depth_passes-requires
+every_depth_passes-requires c =
+    let first = c in
+    let fits = first.requires.section_fits.0 in
+    let thick = fits.thickness in
+    let within = tenths_within first.args.p first.args.minute 1 (omega arith) in
+    (fits, omega (arith, c.tenths_in.ensures))
+
+pub returns : goal.returns
+unfolding time_test
+returns c = c.every_depth_passes.ensures ∙ ap (every_from (depth_passes c.args.p) 0) c.tenths_in.ensures

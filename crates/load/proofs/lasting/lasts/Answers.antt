@@ -1,0 +1,94 @@
+-- `load::lasting::lasts` meets its contract: each fire of a panel that no line above 13 turns back is that of such a panel.
+-- Assumes nothing.
+use Prim.Native.Nat.{ℕ}
+use Rattle.charring.proofs.Accepted.{fire_part}
+use Rattle.charring.specs.Fits.{FireFits}
+use Rattle.limits.proofs.Accepted.{to12_keeps}
+use Rattle.limits.proofs.Turned.{to12_turned}
+use Rattle.limits.specs.Refusals.{refusal_to12}
+use Rattle.load.proofs.LoadMinutes.{not_true_false}
+use Rattle.load.specs.Lasting.{lasts}
+use Rattle.load.specs.LoadMinute.{time_test}
+use Rattle.numbers.proofs.Booleans.{not_both}
+use Rattle.panel.proofs.Turning.{shown_holds, every_one, every_two, every_shown}
+use Rattle.panel.specs.Faces.{turned, shown}
+use Rattle.panel.specs.declared.Panel.{Panel}
+use Rattle.section.specs.Tests.{SectionFits}
+use mathlib.Core.Bool.{Bool, ◌&&◌}
+use mathlib.Core.Path.{◌≡◌, sym, ap, ap₂, subst, ◌∙◌}
+use Rattle.load.proofs.lasting.lasts.Goals as goal
+
+-- what a fire asks for
+abbrev Fits : Panel → Type 0
+Fits p = SectionFits p × FireFits p
+
+fits : (p : Panel) → refusal_to12 p ≡ 0 → Fits p
+fits p e = ((to12_keeps p e).section, fire_part p (to12_keeps p e))
+
+turned_fits : (p : Panel) → refusal_to12 p ≡ 0 → Fits (turned p)
+turned_fits p e = fits (turned p) (to12_turned p ∙ e)
+
+-- what is answered of a fire that was worked out
+answered : (p r : Panel) (minute : ℕ) (b : Bool) → r ≡ p → b ≡ time_test r minute 1 → b ≡ time_test p minute 1
+answered p r minute b same e = e ∙ ap (λ (fire : Panel). time_test fire minute 1) same
+
+pub fire_lasts-requires : goal.fire_lasts-requires
+fire_lasts-requires c =
+    let start = c in
+    let p = start.args.p in
+    record {
+      section_fits = subst Fits (sym c.shown.ensures) (shown_holds Fits p.face p (fits p start.requires.p_value) (turned_fits p start.requires.p_value));
+      minute_le_last_minute = start.requires.minute_le_last_minute;
+    }
+
+pub returns-then-not-fire_lasts : goal.returns-then-not-fire_lasts
+unfolding lasts
+returns-then-not-fire_lasts c =
+    let one = c.fire_lasts in
+    let s = c in
+    let p = s.args.p in
+    let minute = s.args.minute in
+    let first = answered (shown p) s.shown.result minute one.result s.shown.ensures one.ensures in
+    let fails = sym first ∙ c.if-not-fire_lasts.true in
+    sym
+    (not_true_false (lasts p minute)
+    (λ t. not_both (time_test (shown p) minute 1) (every_shown (λ fire. time_test fire minute 1) p.face p t) fails))
+
+pub returns-then-p-lt2 : goal.returns-then-p-lt2
+unfolding lasts
+returns-then-p-lt2 c =
+    let i = c in
+    let one = i.fire_lasts in
+    let s = i in
+    let p = s.args.p in
+    let minute = s.args.minute in
+    let first = answered (shown p) s.shown.result minute one.result s.shown.ensures one.ensures in
+    sym (i.if-not-fire_lasts.false) ∙ first ∙ every_one (λ fire. time_test fire minute 1) p.face p c.if-p-lt2.true
+
+pub fire_lasts-requires-2 : goal.fire_lasts-requires-2
+fire_lasts-requires-2 c =
+    let start = c in
+    record {
+      section_fits = subst Fits (sym c.turned.ensures) (turned_fits start.args.p start.requires.p_value);
+      minute_le_last_minute = start.requires.minute_le_last_minute;
+    }
+
+pub returns : goal.returns
+unfolding lasts
+returns c =
+    let other = c.fire_lasts-2 in
+    let i = c in
+    let one = i.fire_lasts in
+    let s = i in
+    let p = s.args.p in
+    let minute = s.args.minute in
+    let first = answered (shown p) s.shown.result minute one.result s.shown.ensures one.ensures in
+    let second = answered (turned p) c.turned.result minute other.result c.turned.ensures other.ensures in
+    ap₂ (λ (a b : Bool). a && b) (sym (i.if-not-fire_lasts.false) ∙ first) second
+    ∙ every_two (λ fire. time_test fire minute 1) p.face p c.if-p-lt2.false
+
+pub shown-requires : goal.shown-requires
+shown-requires c = (to12_keeps c.args.p c.requires.p_value).section.count
+
+pub turned-requires : goal.turned-requires
+turned-requires c = (to12_keeps c.args.p c.requires.p_value).section.count
