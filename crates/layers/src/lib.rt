@@ -1,4 +1,6 @@
 // Layer times and EI (document 01, "Layer times"): what each board and lamella gives, behind those before it, and their sum.
+#![tactic(auto)]
+
 pub mod calls;
 pub mod minutes;
 mod step;
