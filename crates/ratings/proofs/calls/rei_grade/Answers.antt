@@ -1,0 +1,15 @@
+-- `ratings::calls::rei_grade` meets its contract: the grade of a panel that is let through. Assumes nothing.
+use Rattle.grades.specs.declared.GradeAnswer.TheVariants.{Of, Refused}
+use Rattle.limits.proofs.FirstLine.{turned_back, let_through}
+use Rattle.ratings.specs.Answers.{graded}
+use mathlib.Core.Path.{ap}
+use Rattle.ratings.proofs.calls.rei_grade.Goals as goal
+
+pub returns-then-n-ne0 : goal.returns-then-n-ne0
+unfolding graded
+returns-then-n-ne0 c = turned_back Refused _ c.panel_refusal-n.ensures c.if-n-ne0.true
+
+pub returns : goal.returns
+unfolding graded
+returns c =
+    let_through Refused c.panel_refusal-n.ensures c.if-n-ne0.false (ap Of c.rei_grade_of.ensures)
