@@ -142,6 +142,7 @@ way_depth a back (s ∷ ss) x q (next from deeper exact c) =
         k ∙ later
         ∙ ap (λ (d : ℕ). phase_of_depth ss d q) e
         ∙ sym (deep_rest s ss (2 * q * a + charred (s ∷ ss) x q) q (covered (2 * q * s.to) g (2 * q * a + charred (s ∷ ss) x q) e))
+way_depth a back [] x q x3 = elim x3 [ ]
 
 -- the phase from t_f on, by the char depth
 pub phase_of_depth_lem :
