@@ -1,4 +1,8 @@
 // Prints the card of the record on standard input, or `REFUSED` and its number. Its stored input is panel G.
-fn main() {
-    card_run::run();
+#![tactic(auto)]
+
+use std::io;
+
+fn main(rt: HostRuntime) -> io::Result<()> {
+    card_run::run(&rt)
 }

@@ -1,4 +1,8 @@
 // The program `card`, held to what it prints for a record of version 2 with its fire on the last face.
-fn main() {
-    card_run::run();
+#![tactic(auto)]
+
+use std::io;
+
+fn main(rt: HostRuntime) -> io::Result<()> {
+    card_run::run(&rt)
 }

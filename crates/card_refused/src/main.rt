@@ -1,4 +1,8 @@
 // The program `card`, held to what it prints for a record that is refused.
-fn main() {
-    card_run::run();
+#![tactic(auto)]
+
+use std::io;
+
+fn main(rt: HostRuntime) -> io::Result<()> {
+    card_run::run(&rt)
 }

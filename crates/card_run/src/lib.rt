@@ -1,43 +1,53 @@
 // The whole of the program `card`: one record on standard input, its card or `REFUSED n` on standard output. The programs that only
 // differ in their stored input share it.
+#![tactic(auto)]
+
 pub mod texts;
 
-ghost use Rattle.std.specs.Prelude.{◌≡◌, ◌≤◌, length, take};
-ghost use Rattle.io.specs.Counts.{IsPrefixLen};
+ghost use Rattle.std.specs.Prelude.{◌≡◌, ◌≤◌, length, take, IfOk};
 ghost use Rattle.fire_card.specs.Printed.{printed_text};
+ghost use Rattle.card_run.specs.Counts.{IsPrefixLen};
 ghost use Rattle.card_run.specs.Input.{SpeaksForAll};
 
 use fire_card::CARD_MOST;
-use libc::{STDERR_FILENO, STDIN_FILENO, STDOUT_FILENO};
+use std::io;
+use std::io::Read;
 use texts::text_for;
 
-// What of standard input fits into the space. No open call: there must be room for one byte more than the longest record has, so that
+// What of the input fits into the space. No open call: there must be room for one byte more than the longest record has, so that
 // what is printed for the bytes read is what is printed for the whole input.
-fn read_input(space: &mut [u8]) -> usize
+fn read_input(input: &mut impl Read, space: &mut [u8]) -> io::Result<usize>
     requires { 55 ≤ length space.old }
-    ensures prefix_len { IsPrefixLen result space.new }
-    ensures speaks_for_all { SpeaksForAll (length space.old) (take result space.new) }
+    ensures prefix_len { IfOk result (λ n. IsPrefixLen n space.new) }
+    ensures speaks_for_all { IfOk result (λ n. SpeaksForAll (length space.old) (take n space.new)) }
 {
-    io::read_full(STDIN_FILENO, space)
+    let mut n = 0;
+    while n < space.len() {
+        let more = input.read(&mut space[n..])?;
+        if more == 0 {
+            break;
+        }
+        n += more;
+    }
+    Ok(n)
 }
 
 // Hands a text to standard output, and says so on standard error where that takes nothing. No open call: the text must be what is
 // printed for the bytes.
-fn print(bytes: &[u8], text: &[u8])
+fn print(rt: &(impl Print + Eprint), bytes: &[u8], text: &[u8]) -> io::Result<()>
     requires { text.now ≡ printed_text bytes.now }
 {
-    if !io::write_all(STDOUT_FILENO, text) {
-        io::write_all(
-            STDERR_FILENO,
-            b"card: standard output took not all of the text\n",
-        );
+    let written = rt.write_all(text);
+    if written.is_err() {
+        eprintln!(rt; "card: standard output took not all of the text")?;
     }
+    written
 }
 
-pub fn run() {
+pub fn run(rt: &(impl Input + Print + Eprint)) -> io::Result<()> {
     let mut bytes = [0u8; 64];
-    let n = read_input(&mut bytes);
+    let n = read_input(&mut rt.reader(), &mut bytes)?;
     let mut text = [0u8; CARD_MOST];
     let k = text_for(&bytes[..n], &mut text);
-    print(&bytes[..n], &text[..k]);
+    print(rt, &bytes[..n], &text[..k])
 }

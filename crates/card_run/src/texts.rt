@@ -1,8 +1,8 @@
 // What is printed for a record. No open calls: the longest card must fit into the lent space.
 ghost use Rattle.std.specs.Prelude.{◌≡◌, ◌≤◌, length, take};
-ghost use Rattle.io.specs.Counts.{IsPrefixLen};
 ghost use Rattle.fire_card.specs.Card.{card_most, refusal_text};
 ghost use Rattle.fire_card.specs.Printed.{printed_text};
+ghost use Rattle.card_run.specs.Counts.{IsPrefixLen};
 
 use fire_card::CardAnswer;
 

@@ -1,6 +1,6 @@
 // The lines of the input, their words, and what a word spells.
 ghost use Rattle.std.specs.Prelude.{◌≡◌, ◌*◌, ◌≤◌, ◌<◌, length};
-ghost use Rattle.io.specs.Counts.{IsPrefixLen};
+ghost use Rattle.test_lines.specs.Counts.{IsPrefixLen};
 
 // The place of the first mark from `at` on, or the text's length where there is none.
 // No open call: `at` must be a place of the text, or its end.
@@ -45,7 +45,7 @@ pub fn first_word(line: &[u8]) -> &[u8] {
 
 // Whether the line's first word is this one.
 pub fn is_word(line: &[u8], word: &[u8]) -> bool {
-    check::same(first_word(line), word)
+    first_word(line) == word
 }
 
 // What follows the first word and its blank; nothing where the line is one word.

@@ -1,41 +1,42 @@
-// Output, one piece after the other.
-use libc::STDOUT_FILENO;
+// Output, one piece after the other. Where a write fails, the error goes up to the program's end.
+use std::io;
 
-pub fn text(s: &[u8]) {
-    io::write_all(STDOUT_FILENO, s);
+pub fn text(rt: &impl Print, s: &[u8]) -> io::Result<()> {
+    rt.write_all(s)
 }
 
-pub fn number(n: u64) {
-    io::print_decimal(STDOUT_FILENO, n);
+pub fn number(rt: &impl Print, n: u64) -> io::Result<()> {
+    print!(rt; "{n}")
 }
 
-pub fn refused(n: u8) {
-    text(b"refused ");
-    number(n as u64);
+pub fn refused(rt: &impl Print, n: u8) -> io::Result<()> {
+    text(rt, b"refused ")?;
+    number(rt, n as u64)
 }
 
-fn hex_byte(b: u8) {
-    io::print_hex(STDOUT_FILENO, b as u64, 2);
+fn hex_byte(rt: &impl Print, b: u8) -> io::Result<()> {
+    print!(rt; "{b:02x}")
 }
 
 // Two hexadecimal digits for each byte.
-pub fn hex(s: &[u8]) {
+pub fn hex(rt: &impl Print, s: &[u8]) -> io::Result<()> {
     let mut i = 0;
     while i < s.len() {
-        hex_byte(s[i]);
+        hex_byte(rt, s[i])?;
         i += 1;
     }
+    Ok(())
 }
 
 // A blank, the text that names the case, and the line feed.
-pub fn end_line(name: &[u8]) {
-    text(b" ");
-    text(name);
-    text(b"\n");
+pub fn end_line(rt: &impl Print, name: &[u8]) -> io::Result<()> {
+    text(rt, b" ")?;
+    text(rt, name)?;
+    text(rt, b"\n")
 }
 
 // For a line that names no call.
-pub fn unknown(rest: &[u8]) {
-    text(b"unknown");
-    end_line(rest);
+pub fn unknown(rt: &impl Print, rest: &[u8]) -> io::Result<()> {
+    text(rt, b"unknown")?;
+    end_line(rt, rest)
 }

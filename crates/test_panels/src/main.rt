@@ -1,12 +1,15 @@
 // Panels that no record gives: built here, field by field, and handed to each open call. A line has the refusals of `panel_refusal`, of
 // `section`, of `write`, of `same_build` with the panel in the first and in the second place, of `ei_sum` and `ei`, and at
 // minute 0 of `char_depth`, `effective_depth`, `phase` and `depth_table`, 0 for none, and the panel's name.
+#![tactic(auto)]
+
 use charring::{DepthAnswer, PhaseAnswer, TableAnswer};
 use layers::LayerAnswer;
 use limits::{BuildAnswer, SectionAnswer};
 use panel::{Board, Cladding, Panel};
 use record::Writing;
 use section::Section;
+use std::io;
 use test_lines::output;
 
 fn section_refusal(p: Panel) -> u8 {
@@ -66,85 +69,85 @@ fn table_refusal(p: Panel) -> u8 {
     }
 }
 
-fn print_refusal(n: u8) {
-    output::number(n as u64);
-    output::text(b" ");
+fn print_refusal(rt: &impl Print, n: u8) -> io::Result<()> {
+    output::number(rt, n as u64)?;
+    output::text(rt, b" ")
 }
 
-fn print_panel(p: Panel, name: &[u8]) {
-    print_refusal(limits::calls::panel_refusal(p));
-    print_refusal(section_refusal(p));
-    print_refusal(write_refusal(p));
-    print_refusal(build_refusal(p, g()));
-    print_refusal(build_refusal(g(), p));
-    print_refusal(layer_refusal(layers::calls::ei_sum(p)));
-    print_refusal(layer_refusal(layers::calls::ei(p)));
-    print_refusal(depth_refusal(charring::calls::char_depth(p, 0)));
-    print_refusal(depth_refusal(charring::calls::effective_depth(p, 0)));
-    print_refusal(phase_refusal(p));
-    output::number(table_refusal(p) as u64);
-    output::end_line(name);
+fn print_panel(rt: &impl Print, p: Panel, name: &[u8]) -> io::Result<()> {
+    print_refusal(rt, limits::calls::panel_refusal(p))?;
+    print_refusal(rt, section_refusal(p))?;
+    print_refusal(rt, write_refusal(p))?;
+    print_refusal(rt, build_refusal(p, g()))?;
+    print_refusal(rt, build_refusal(g(), p))?;
+    print_refusal(rt, layer_refusal(layers::calls::ei_sum(p)))?;
+    print_refusal(rt, layer_refusal(layers::calls::ei(p)))?;
+    print_refusal(rt, depth_refusal(charring::calls::char_depth(p, 0)))?;
+    print_refusal(rt, depth_refusal(charring::calls::effective_depth(p, 0)))?;
+    print_refusal(rt, phase_refusal(p))?;
+    output::number(rt, table_refusal(p) as u64)?;
+    output::end_line(rt, name)
 }
 
 // What 64 bytes of 238 hold after the panel is written into them.
-fn print_record(p: Panel, name: &[u8]) {
+fn print_record(rt: &impl Print, p: Panel, name: &[u8]) -> io::Result<()> {
     let mut space = [238u8; 64];
     record::calls::write(p, &mut space);
-    output::hex(&space);
-    output::end_line(name);
+    output::hex(rt, &space)?;
+    output::end_line(rt, name)
 }
 
 // The sum of the layer times, in hundredths of a minute.
-fn print_sum(p: Panel, name: &[u8]) {
+fn print_sum(rt: &impl Print, p: Panel, name: &[u8]) -> io::Result<()> {
     let answer = layers::calls::ei_sum(p);
     match answer {
-        LayerAnswer::Value(sum) => output::number(sum as u64),
-        LayerAnswer::Refused(_) => output::text(b"refused"),
+        LayerAnswer::Value(sum) => output::number(rt, sum as u64)?,
+        LayerAnswer::Refused(_) => output::text(rt, b"refused")?,
     }
-    output::end_line(name);
+    output::end_line(rt, name)
 }
 
-fn print_field(n: u64) {
-    output::number(n);
-    output::text(b" ");
+fn print_field(rt: &impl Print, n: u64) -> io::Result<()> {
+    output::number(rt, n)?;
+    output::text(rt, b" ")
 }
 
-fn print_parts(s: Section) {
-    print_field(s.n);
-    print_field(s.p);
-    print_field(s.q);
-    print_field(s.lo);
-    output::number(s.hi);
+fn print_parts(rt: &impl Print, s: Section) -> io::Result<()> {
+    print_field(rt, s.n)?;
+    print_field(rt, s.p)?;
+    print_field(rt, s.q)?;
+    print_field(rt, s.lo)?;
+    output::number(rt, s.hi)
 }
 
 // N, P, Q, lo and hi at a depth in tenths of mm.
-fn print_section(p: Panel, depth: u32, name: &[u8]) {
+fn print_section(rt: &impl Print, p: Panel, depth: u32, name: &[u8]) -> io::Result<()> {
     let answer = limits::calls::section(p, depth);
     match answer {
-        SectionAnswer::At(s, _) => print_parts(s),
-        SectionAnswer::Refused(_) => output::text(b"refused"),
+        SectionAnswer::At(s, _) => print_parts(rt, s)?,
+        SectionAnswer::Refused(_) => output::text(rt, b"refused")?,
     }
-    output::end_line(name);
+    output::end_line(rt, name)
 }
 
 // The char depth in micrometres.
-fn print_char(p: Panel, minute: u16, name: &[u8]) {
+fn print_char(rt: &impl Print, p: Panel, minute: u16, name: &[u8]) -> io::Result<()> {
     let answer = charring::calls::char_depth(p, minute);
     match answer {
-        DepthAnswer::Depth(depth) => output::number(depth as u64),
-        DepthAnswer::Refused(_) => output::text(b"refused"),
+        DepthAnswer::Depth(depth) => output::number(rt, depth as u64)?,
+        DepthAnswer::Refused(_) => output::text(rt, b"refused")?,
     }
-    output::end_line(name);
+    output::end_line(rt, name)
 }
 
-fn print_build(a: Panel, b: Panel, name: &[u8]) {
+fn print_build(rt: &impl Print, a: Panel, b: Panel, name: &[u8]) -> io::Result<()> {
     let answer = limits::calls::same_build(a, b);
     match answer {
-        BuildAnswer::Same => output::text(b"same"),
-        BuildAnswer::Different => output::text(b"different"),
-        BuildAnswer::Refused(n) => output::refused(n),
+        BuildAnswer::Same => output::text(rt, b"same")?,
+        BuildAnswer::Different => output::text(rt, b"different")?,
+        BuildAnswer::Refused(n) => output::refused(rt, n)?,
     }
-    output::end_line(name);
+    output::end_line(rt, name)
 }
 
 fn panel(
@@ -204,116 +207,134 @@ fn two(outer: u8, inner: u8, failure_time: u32) -> Panel {
     )
 }
 
-fn print_loads() {
+fn print_loads(rt: &impl Print) -> io::Result<()> {
     let mut p = g();
-    print_panel(p, b"G");
+    print_panel(rt, p, b"G")?;
     p.bond = 255;
-    print_panel(p, b"bond 255");
+    print_panel(rt, p, b"bond 255")?;
     p = g();
     p.gap = 2;
-    print_panel(p, b"gap 2");
+    print_panel(rt, p, b"gap 2")?;
     p = g();
     p.rate = 255;
-    print_panel(p, b"rate 255");
+    print_panel(rt, p, b"rate 255")?;
     p = g();
     p.strength = 65535;
-    print_panel(p, b"strength 65,535");
+    print_panel(rt, p, b"strength 65,535")?;
     p = g();
     p.moment = 4294967295;
-    print_panel(p, b"moment 4,294,967,295");
+    print_panel(rt, p, b"moment 4,294,967,295")?;
     p.moment = 43057;
-    print_panel(p, b"moment 43,057");
+    print_panel(rt, p, b"moment 43,057")?;
     p.moment = 43056;
-    print_panel(p, b"moment 43,056");
+    print_panel(rt, p, b"moment 43,056")
 }
 
-fn print_boards() {
-    print_panel(one(b'B', 125, 100, 0), b"unknown type B");
-    print_panel(one(0, 125, 100, 0), b"type 0");
-    print_panel(two(b'H', b'f', 0), b"unknown type f under H");
-    print_panel(two(b'F', b'A', 49000), b"F over A");
-    print_panel(two(b'A', b'F', 0), b"F under A");
-    print_panel(two(b'H', b'F', 0), b"F under H");
-    print_panel(two(b'A', b'H', 0), b"A over H");
-    print_panel(two(b'F', b'F', 49000), b"F over F");
-    print_panel(two(b'F', b'F', 48999), b"F over F, failure before charring");
-    print_panel(one(b'A', 65535, 100, 0), b"board thickness 65,535");
-    print_panel(one(b'H', 125, 255, 0), b"joint coefficient 255");
+fn print_boards(rt: &impl Print) -> io::Result<()> {
+    print_panel(rt, one(b'B', 125, 100, 0), b"unknown type B")?;
+    print_panel(rt, one(0, 125, 100, 0), b"type 0")?;
+    print_panel(rt, two(b'H', b'f', 0), b"unknown type f under H")?;
+    print_panel(rt, two(b'F', b'A', 49000), b"F over A")?;
+    print_panel(rt, two(b'A', b'F', 0), b"F under A")?;
+    print_panel(rt, two(b'H', b'F', 0), b"F under H")?;
+    print_panel(rt, two(b'A', b'H', 0), b"A over H")?;
+    print_panel(rt, two(b'F', b'F', 49000), b"F over F")?;
     print_panel(
+        rt,
+        two(b'F', b'F', 48999),
+        b"F over F, failure before charring",
+    )?;
+    print_panel(rt, one(b'A', 65535, 100, 0), b"board thickness 65,535")?;
+    print_panel(rt, one(b'H', 125, 255, 0), b"joint coefficient 255")?;
+    print_panel(
+        rt,
         one(b'F', 125, 100, 4294967295),
         b"failure time 4,294,967,295 of F",
-    );
+    )?;
     print_panel(
+        rt,
         clad(Cladding::Unclad, 4294967295),
         b"failure time 4,294,967,295, unclad",
-    );
+    )?;
     print_panel(
+        rt,
         clad(
             Cladding::Two(board(b'F', 65535, 255), board(b'F', 65535, 255)),
             4294967295,
         ),
         b"two F at their greatest",
-    );
+    )
 }
 
-fn print_wood_boards() {
-    print_panel(one(b'O', 200, 100, 0), b"O 20.0");
-    print_panel(one(b'P', 401, 100, 0), b"P 40.1");
-    print_panel(one(b'O', 65535, 100, 0), b"O of 65,535");
-    print_panel(one(b'P', 400, 100, 44444), b"P 40.0, t_ch given");
-    print_panel(two(b'O', b'A', 0), b"O over A");
-    print_panel(two(b'A', b'O', 0), b"O under A");
-    print_panel(two(b'P', b'P', 0), b"P over P");
+fn print_wood_boards(rt: &impl Print) -> io::Result<()> {
+    print_panel(rt, one(b'O', 200, 100, 0), b"O 20.0")?;
+    print_panel(rt, one(b'P', 401, 100, 0), b"P 40.1")?;
+    print_panel(rt, one(b'O', 65535, 100, 0), b"O of 65,535")?;
+    print_panel(rt, one(b'P', 400, 100, 44444), b"P 40.0, t_ch given")?;
+    print_panel(rt, two(b'O', b'A', 0), b"O over A")?;
+    print_panel(rt, two(b'A', b'O', 0), b"O under A")?;
+    print_panel(rt, two(b'P', b'P', 0), b"P over P")
 }
 
-fn print_lamellae() {
+fn print_lamellae(rt: &impl Print) -> io::Result<()> {
     let full_along = [1u8; 9];
     let g_along = [1u8, 0, 1, 0, 0, 0, 0, 0, 0];
     let g_thick = [300u16, 400, 300, 0, 0, 0, 0, 0, 0];
-    print_panel(unclad(0, g_along, g_thick), b"count 0");
-    print_panel(unclad(10, full_along, [300u16; 9]), b"count 10");
+    print_panel(rt, unclad(0, g_along, g_thick), b"count 0")?;
+    print_panel(rt, unclad(10, full_along, [300u16; 9]), b"count 10")?;
     print_panel(
+        rt,
         unclad(18446744073709551615, full_along, [300u16; 9]),
         b"count 18,446,744,073,709,551,615",
-    );
-    print_panel(unclad(9, full_along, [400u16; 9]), b"count 9, arrays full");
-    print_panel(unclad(9, full_along, [445u16; 9]), b"count 9, sum 4,005");
+    )?;
     print_panel(
+        rt,
+        unclad(9, full_along, [400u16; 9]),
+        b"count 9, arrays full",
+    )?;
+    print_panel(
+        rt,
+        unclad(9, full_along, [445u16; 9]),
+        b"count 9, sum 4,005",
+    )?;
+    print_panel(
+        rt,
         unclad(9, full_along, [65535u16; 9]),
         b"nine lamellae of 65,535",
-    );
+    )?;
     print_panel(
+        rt,
         unclad(1, full_along, [65535u16; 9]),
         b"one lamella of 65,535",
-    );
-    print_panel(unclad(3, [255u8; 9], g_thick), b"direction 255");
-    print_panel(unclad(3, [0u8; 9], g_thick), b"all across");
-    print_panel(unclad(3, g_along, [0u16; 9]), b"thickness 0");
+    )?;
+    print_panel(rt, unclad(3, [255u8; 9], g_thick), b"direction 255")?;
+    print_panel(rt, unclad(3, [0u8; 9], g_thick), b"all across")?;
+    print_panel(rt, unclad(3, g_along, [0u16; 9]), b"thickness 0")
 }
 
 // Unused places are ignored, and written nowhere.
-fn print_unused() {
+fn print_unused(rt: &impl Print) -> io::Result<()> {
     let directions = [1u8, 0, 1, 255, 255, 255, 255, 255, 255];
     let thicknesses = [300u16, 400, 300, 65535, 65535, 65535, 65535, 65535, 65535];
     let full = unclad(3, directions, thicknesses);
-    print_panel(full, b"unused places full");
-    print_record(full, b"record of the panel with unused places full");
-    print_record(g(), b"record of the panel with unused places 0");
-    print_build(full, g(), b"unused places full and 0");
-    print_sum(full, b"EI sum of the panel with unused places full");
-    print_sum(g(), b"EI sum of the panel with unused places 0");
-    print_panel(unclad(4, directions, thicknesses), b"a full place used");
+    print_panel(rt, full, b"unused places full")?;
+    print_record(rt, full, b"record of the panel with unused places full")?;
+    print_record(rt, g(), b"record of the panel with unused places 0")?;
+    print_build(rt, full, g(), b"unused places full and 0")?;
+    print_sum(rt, full, b"EI sum of the panel with unused places full")?;
+    print_sum(rt, g(), b"EI sum of the panel with unused places 0")?;
+    print_panel(rt, unclad(4, directions, thicknesses), b"a full place used")
 }
 
 // Of two panels the first is checked before the second; strength, moment and unused places do not count.
-fn print_builds() {
+fn print_builds(rt: &impl Print) -> io::Result<()> {
     let mut fast = g();
     fast.rate = 255;
     let mut loose = g();
     loose.bond = 255;
-    print_build(fast, loose, b"the first meets 4, the second 3");
-    print_build(loose, fast, b"the first meets 3, the second 4");
-    print_build(g(), loose, b"the second alone meets 3");
+    print_build(rt, fast, loose, b"the first meets 4, the second 3")?;
+    print_build(rt, loose, fast, b"the first meets 3, the second 4")?;
+    print_build(rt, g(), loose, b"the second alone meets 3")?;
     let mut other = unclad(
         3,
         [1u8, 0, 1, 1, 1, 1, 1, 1, 1],
@@ -321,9 +342,9 @@ fn print_builds() {
     );
     other.strength = 400;
     other.moment = 0;
-    print_build(other, g(), b"other strength, moment and unused places");
+    print_build(rt, other, g(), b"other strength, moment and unused places")?;
     other.bond = 1;
-    print_build(other, g(), b"other bond too");
+    print_build(rt, other, g(), b"other bond too")
 }
 
 fn faced(p: Panel, version: u8, face: u8) -> Panel {
@@ -334,40 +355,45 @@ fn faced(p: Panel, version: u8, face: u8) -> Panel {
 }
 
 // The version and the face are looked at before all else.
-fn print_versions() {
-    print_panel(faced(g(), 0, 0), b"version 0");
-    print_panel(faced(g(), 3, 0), b"version 3");
-    print_panel(faced(g(), 0, 3), b"version 0, face 3");
-    print_panel(faced(g(), 1, 1), b"version 1, face 1");
-    print_panel(faced(g(), 1, 2), b"version 1, face 2");
-    print_panel(faced(g(), 1, 3), b"version 1, face 3");
-    print_panel(faced(g(), 2, 0), b"version 2, face 0");
-    print_panel(faced(g(), 2, 1), b"version 2, face 1");
-    print_panel(faced(g(), 2, 2), b"version 2, face 2");
-    print_panel(faced(g(), 2, 3), b"version 2, face 3");
-    print_panel(faced(g(), 2, 255), b"version 2, face 255");
+fn print_versions(rt: &impl Print) -> io::Result<()> {
+    print_panel(rt, faced(g(), 0, 0), b"version 0")?;
+    print_panel(rt, faced(g(), 3, 0), b"version 3")?;
+    print_panel(rt, faced(g(), 0, 3), b"version 0, face 3")?;
+    print_panel(rt, faced(g(), 1, 1), b"version 1, face 1")?;
+    print_panel(rt, faced(g(), 1, 2), b"version 1, face 2")?;
+    print_panel(rt, faced(g(), 1, 3), b"version 1, face 3")?;
+    print_panel(rt, faced(g(), 2, 0), b"version 2, face 0")?;
+    print_panel(rt, faced(g(), 2, 1), b"version 2, face 1")?;
+    print_panel(rt, faced(g(), 2, 2), b"version 2, face 2")?;
+    print_panel(rt, faced(g(), 2, 3), b"version 2, face 3")?;
+    print_panel(rt, faced(g(), 2, 255), b"version 2, face 255")?;
     let mut loose = g();
     loose.bond = 255;
-    print_panel(faced(loose, 3, 0), b"version 3, bond 255");
-    print_panel(faced(loose, 1, 1), b"version 1, face 1, bond 255");
-    print_panel(faced(loose, 2, 2), b"version 2, face 2, bond 255");
+    print_panel(rt, faced(loose, 3, 0), b"version 3, bond 255")?;
+    print_panel(rt, faced(loose, 1, 1), b"version 1, face 1, bond 255")?;
+    print_panel(rt, faced(loose, 2, 2), b"version 2, face 2, bond 255")
 }
 
-fn print_fire(full: Panel, empty: Panel) {
-    print_panel(full, b"wall, unused places full");
-    print_record(full, b"record of the wall with unused places full");
-    print_record(empty, b"record of the wall with unused places 0");
-    print_sum(full, b"EI sum of the wall with unused places full");
-    print_sum(empty, b"EI sum of the wall with unused places 0");
-    print_section(full, 250, b"section of the wall with unused places full");
-    print_section(empty, 250, b"section of the wall with unused places 0");
-    print_char(full, 60, b"char of the wall with unused places full");
-    print_char(empty, 60, b"char of the wall with unused places 0");
-    print_build(full, empty, b"walls, unused places full and 0");
+fn print_fire(rt: &impl Print, full: Panel, empty: Panel) -> io::Result<()> {
+    print_panel(rt, full, b"wall, unused places full")?;
+    print_record(rt, full, b"record of the wall with unused places full")?;
+    print_record(rt, empty, b"record of the wall with unused places 0")?;
+    print_sum(rt, full, b"EI sum of the wall with unused places full")?;
+    print_sum(rt, empty, b"EI sum of the wall with unused places 0")?;
+    print_section(
+        rt,
+        full,
+        250,
+        b"section of the wall with unused places full",
+    )?;
+    print_section(rt, empty, 250, b"section of the wall with unused places 0")?;
+    print_char(rt, full, 60, b"char of the wall with unused places full")?;
+    print_char(rt, empty, 60, b"char of the wall with unused places 0")?;
+    print_build(rt, full, empty, b"walls, unused places full and 0")
 }
 
 // The same from each fire: turning reverses the used places alone.
-fn print_fires() {
+fn print_fires(rt: &impl Print) -> io::Result<()> {
     let directions = [1u8, 0, 1, 255, 255, 255, 255, 255, 255];
     let thicknesses = [200u16, 300, 400, 65535, 65535, 65535, 65535, 65535, 65535];
     let mut full = unclad(3, directions, thicknesses);
@@ -378,24 +404,26 @@ fn print_fires() {
         [200u16, 300, 400, 0, 0, 0, 0, 0, 0],
     );
     empty.bond = 1;
-    print_fire(faced(full, 2, 1), faced(empty, 2, 1));
-    print_fire(faced(full, 2, 2), faced(empty, 2, 2));
-    print_build(full, faced(empty, 2, 0), b"versions 1 and 2, face 0");
-    print_build(full, faced(empty, 2, 1), b"version 1 and face 1");
-    print_build(faced(full, 2, 1), faced(empty, 2, 2), b"faces 1 and 2");
+    print_fire(rt, faced(full, 2, 1), faced(empty, 2, 1))?;
+    print_fire(rt, faced(full, 2, 2), faced(empty, 2, 2))?;
+    print_build(rt, full, faced(empty, 2, 0), b"versions 1 and 2, face 0")?;
+    print_build(rt, full, faced(empty, 2, 1), b"version 1 and face 1")?;
+    print_build(rt, faced(full, 2, 1), faced(empty, 2, 2), b"faces 1 and 2")?;
     print_build(
+        rt,
         faced(full, 1, 1),
         faced(empty, 3, 0),
         b"the first meets 16, the second 2",
-    );
+    )?;
     print_build(
+        rt,
         faced(full, 0, 0),
         faced(empty, 2, 3),
         b"the first meets 2, the second 16",
-    );
+    )
 }
 
-fn print_greatest() {
+fn print_greatest(rt: &impl Print) -> io::Result<()> {
     let mut p = panel(
         Cladding::Two(board(255, 65535, 255), board(255, 65535, 255)),
         4294967295,
@@ -408,47 +436,54 @@ fn print_greatest() {
     p.gap = 255;
     p.strength = 65535;
     p.moment = 4294967295;
-    print_panel(faced(p, 2, 2), b"all past the face at their greatest");
+    print_panel(rt, faced(p, 2, 2), b"all past the face at their greatest")?;
     p = faced(p, 255, 255);
-    print_panel(p, b"all fields at their greatest");
-    print_record(p, b"space after all fields at their greatest");
+    print_panel(rt, p, b"all fields at their greatest")?;
+    print_record(rt, p, b"space after all fields at their greatest")
 }
 
 // t_ch, the start of charring, in thousandths of a minute.
-fn print_start(gap: u8, cladding: Cladding, name: &[u8]) {
-    output::number(panel::boards::charring_start(gap, cladding) as u64);
-    output::end_line(name);
+fn print_start(rt: &impl Print, gap: u8, cladding: Cladding, name: &[u8]) -> io::Result<()> {
+    output::number(rt, panel::boards::charring_start(gap, cladding) as u64)?;
+    output::end_line(rt, name)
 }
 
-fn print_starts() {
+fn print_starts(rt: &impl Print) -> io::Result<()> {
     let a = board(b'A', 125, 100);
     let f = board(b'F', 125, 100);
-    print_start(0, Cladding::Unclad, b"t_ch unclad");
-    print_start(0, Cladding::One(a), b"t_ch of A 12.5");
-    print_start(1, Cladding::One(a), b"t_ch of A 12.5, wide gap");
-    print_start(0, Cladding::Two(a, a), b"t_ch of two A 12.5");
-    print_start(0, Cladding::Two(f, f), b"t_ch of two F 12.5");
-    print_start(1, Cladding::Two(f, f), b"t_ch of two F 12.5, wide gap");
+    print_start(rt, 0, Cladding::Unclad, b"t_ch unclad")?;
+    print_start(rt, 0, Cladding::One(a), b"t_ch of A 12.5")?;
+    print_start(rt, 1, Cladding::One(a), b"t_ch of A 12.5, wide gap")?;
+    print_start(rt, 0, Cladding::Two(a, a), b"t_ch of two A 12.5")?;
+    print_start(rt, 0, Cladding::Two(f, f), b"t_ch of two F 12.5")?;
+    print_start(rt, 1, Cladding::Two(f, f), b"t_ch of two F 12.5, wide gap")?;
     print_start(
+        rt,
         1,
         Cladding::One(board(b'H', 90, 100)),
         b"t_ch of H 9.0, wide gap",
-    );
+    )?;
     let o = board(b'O', 200, 100);
-    print_start(0, Cladding::One(o), b"t_ch of O 20.0");
-    print_start(1, Cladding::One(o), b"t_ch of O 20.0, wide gap");
-    print_start(0, Cladding::One(board(b'P', 400, 100)), b"t_ch of P 40.0");
+    print_start(rt, 0, Cladding::One(o), b"t_ch of O 20.0")?;
+    print_start(rt, 1, Cladding::One(o), b"t_ch of O 20.0, wide gap")?;
+    print_start(
+        rt,
+        0,
+        Cladding::One(board(b'P', 400, 100)),
+        b"t_ch of P 40.0",
+    )
 }
 
-fn main() {
-    print_loads();
-    print_boards();
-    print_wood_boards();
-    print_lamellae();
-    print_unused();
-    print_builds();
-    print_versions();
-    print_fires();
-    print_greatest();
-    print_starts();
+fn main(rt: HostRuntime) -> io::Result<()> {
+    let rt = &rt;
+    print_loads(rt)?;
+    print_boards(rt)?;
+    print_wood_boards(rt)?;
+    print_lamellae(rt)?;
+    print_unused(rt)?;
+    print_builds(rt)?;
+    print_versions(rt)?;
+    print_fires(rt)?;
+    print_greatest(rt)?;
+    print_starts(rt)
 }

@@ -1,4 +1,8 @@
 // The test program whose stored input is about planing: `planing`.
-fn main() {
-    test_run::run();
+#![tactic(auto)]
+
+use std::io;
+
+fn main(rt: HostRuntime) -> io::Result<()> {
+    test_run::run(&rt)
 }

@@ -1,4 +1,8 @@
 // The test program whose stored input is about records and the panels in them: `read`, `write`, `build`.
-fn main() {
-    test_run::run();
+#![tactic(auto)]
+
+use std::io;
+
+fn main(rt: HostRuntime) -> io::Result<()> {
+    test_run::run(&rt)
 }

@@ -2,22 +2,23 @@
 // A refused record stands for a blank panel.
 use crate::records::panel_of;
 use limits::BuildAnswer;
+use std::io;
 use test_lines::input::{after_word, first_word};
 use test_lines::output;
 
-fn print_answer(answer: BuildAnswer) {
+fn print_answer(rt: &impl Print, answer: BuildAnswer) -> io::Result<()> {
     match answer {
-        BuildAnswer::Same => output::text(b"same"),
-        BuildAnswer::Different => output::text(b"different"),
-        BuildAnswer::Refused(n) => output::refused(n),
+        BuildAnswer::Same => output::text(rt, b"same"),
+        BuildAnswer::Different => output::text(rt, b"different"),
+        BuildAnswer::Refused(n) => output::refused(rt, n),
     }
 }
 
-pub fn answer(line: &[u8]) {
+pub fn answer(rt: &impl Print, line: &[u8]) -> io::Result<()> {
     let rest = after_word(line);
     let a = panel_of(first_word(line));
     let b = panel_of(first_word(rest));
-    output::text(b"build ");
-    print_answer(limits::calls::same_build(a, b));
-    output::end_line(after_word(rest));
+    output::text(rt, b"build ")?;
+    print_answer(rt, limits::calls::same_build(a, b))?;
+    output::end_line(rt, after_word(rest))
 }

@@ -5,6 +5,7 @@ ghost use Rattle.std.specs.Prelude.{◌≤◌, length};
 
 use fire_card::CardAnswer;
 use numbers::sizes::lesser;
+use std::io;
 use test_lines::input::{after_word, first_word, hex_bytes, number, number8};
 use test_lines::output;
 
@@ -31,32 +32,32 @@ fn is_full_stops(bytes: &[u8]) -> bool {
     true
 }
 
-fn print_unwritten(bytes: &[u8]) {
+fn print_unwritten(rt: &impl Print, bytes: &[u8]) -> io::Result<()> {
     if is_full_stops(bytes) {
-        output::text(b" same");
+        output::text(rt, b" same")
     } else {
-        output::text(b" changed");
+        output::text(rt, b" changed")
     }
 }
 
-fn print_written(n: usize, bytes: &[u8], name: &[u8]) {
+fn print_written(rt: &impl Print, n: usize, bytes: &[u8], name: &[u8]) -> io::Result<()> {
     let end = lesser(n, bytes.len());
-    output::number(n as u64);
-    print_unwritten(&bytes[end..]);
-    output::end_line(name);
-    output::text(&bytes[0..end]);
+    output::number(rt, n as u64)?;
+    print_unwritten(rt, &bytes[end..])?;
+    output::end_line(rt, name)?;
+    output::text(rt, &bytes[0..end])
 }
 
-fn print_refused(n: u8, bytes: &[u8], name: &[u8]) {
-    output::refused(n);
-    print_unwritten(bytes);
-    output::end_line(name);
+fn print_refused(rt: &impl Print, n: u8, bytes: &[u8], name: &[u8]) -> io::Result<()> {
+    output::refused(rt, n)?;
+    print_unwritten(rt, bytes)?;
+    output::end_line(rt, name)
 }
 
-fn print_answer(answer: CardAnswer, bytes: &[u8], name: &[u8]) {
+fn print_answer(rt: &impl Print, answer: CardAnswer, bytes: &[u8], name: &[u8]) -> io::Result<()> {
     match answer {
-        CardAnswer::Written(n) => print_written(n, bytes, name),
-        CardAnswer::Refused(n) => print_refused(n, bytes, name),
+        CardAnswer::Written(n) => print_written(rt, n, bytes, name),
+        CardAnswer::Refused(n) => print_refused(rt, n, bytes, name),
     }
 }
 
@@ -67,21 +68,21 @@ fn space_of(word: &[u8]) -> usize
     lesser(number(word) as usize, 200)
 }
 
-pub fn answer_card(line: &[u8]) {
+pub fn answer_card(rt: &impl Print, line: &[u8]) -> io::Result<()> {
     let rest = after_word(line);
     let mut record = [0u8; 128];
     let n = hex_bytes(first_word(line), &mut record);
     let mut bytes = [b'.'; 200];
     let answer = card_into(&record[..n], &mut bytes, space_of(first_word(rest)));
-    output::text(b"card ");
-    print_answer(answer, &bytes, after_word(rest));
+    output::text(rt, b"card ")?;
+    print_answer(rt, answer, &bytes, after_word(rest))
 }
 
-pub fn answer_refusal(line: &[u8]) {
+pub fn answer_refusal(rt: &impl Print, line: &[u8]) -> io::Result<()> {
     let rest = after_word(line);
     let n = number8(first_word(line));
     let mut bytes = [b'.'; 200];
     let answer = refusal_into(n, &mut bytes, space_of(first_word(rest)));
-    output::text(b"refusal ");
-    print_answer(answer, &bytes, after_word(rest));
+    output::text(rt, b"refusal ")?;
+    print_answer(rt, answer, &bytes, after_word(rest))
 }

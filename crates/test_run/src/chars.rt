@@ -3,53 +3,54 @@
 use crate::records::panel_of;
 use charring::{DepthAnswer, Phase, PhaseAnswer};
 use panel::Panel;
+use std::io;
 use test_lines::input::{after_word, first_word, number16};
 use test_lines::output;
 
-fn print_depth(answer: DepthAnswer) {
+fn print_depth(rt: &impl Print, answer: DepthAnswer) -> io::Result<()> {
     match answer {
-        DepthAnswer::Depth(depth) => output::number(depth as u64),
-        DepthAnswer::Refused(n) => output::refused(n),
+        DepthAnswer::Depth(depth) => output::number(rt, depth as u64),
+        DepthAnswer::Refused(n) => output::refused(rt, n),
     }
 }
 
-fn print_phase(phase: Phase) {
+fn print_phase(rt: &impl Print, phase: Phase) -> io::Result<()> {
     match phase {
-        Phase::Untouched => output::text(b"untouched"),
-        Phase::UnderCladding => output::text(b"under cladding"),
+        Phase::Untouched => output::text(rt, b"untouched"),
+        Phase::UnderCladding => output::text(rt, b"under cladding"),
         Phase::Fast(end) => {
-            output::text(b"fast ");
-            output::number(end as u64);
+            output::text(rt, b"fast ")?;
+            output::number(rt, end as u64)
         }
-        Phase::Settled => output::text(b"settled"),
+        Phase::Settled => output::text(rt, b"settled"),
     }
 }
 
-fn print_phase_answer(answer: PhaseAnswer) {
+fn print_phase_answer(rt: &impl Print, answer: PhaseAnswer) -> io::Result<()> {
     match answer {
-        PhaseAnswer::At(phase) => print_phase(phase),
-        PhaseAnswer::Refused(n) => output::refused(n),
+        PhaseAnswer::At(phase) => print_phase(rt, phase),
+        PhaseAnswer::Refused(n) => output::refused(rt, n),
     }
 }
 
-fn print_char(p: Panel, minute: u16) {
+fn print_char(rt: &impl Print, p: Panel, minute: u16) -> io::Result<()> {
     let answer = charring::calls::char_depth(p, minute);
     match answer {
         DepthAnswer::Depth(depth) => {
-            output::number(depth as u64);
-            output::text(b" ");
-            print_depth(charring::calls::effective_depth(p, minute));
-            output::text(b" ");
-            print_phase_answer(charring::calls::phase(p, minute));
+            output::number(rt, depth as u64)?;
+            output::text(rt, b" ")?;
+            print_depth(rt, charring::calls::effective_depth(p, minute))?;
+            output::text(rt, b" ")?;
+            print_phase_answer(rt, charring::calls::phase(p, minute))
         }
-        DepthAnswer::Refused(n) => output::refused(n),
+        DepthAnswer::Refused(n) => output::refused(rt, n),
     }
 }
 
-pub fn answer(line: &[u8]) {
+pub fn answer(rt: &impl Print, line: &[u8]) -> io::Result<()> {
     let minute = number16(first_word(line));
     let rest = after_word(line);
-    output::text(b"char ");
-    print_char(panel_of(first_word(rest)), minute);
-    output::end_line(after_word(rest));
+    output::text(rt, b"char ")?;
+    print_char(rt, panel_of(first_word(rest)), minute)?;
+    output::end_line(rt, after_word(rest))
 }

@@ -3,45 +3,46 @@
 // refusal, and the text. A refused record stands for a blank panel.
 use crate::records::panel_of;
 use grades::GradeAnswer;
+use std::io;
 use test_lines::input::{after_word, first_word, number16};
 use test_lines::output;
 
-fn print_answer(answer: GradeAnswer) {
+fn print_answer(rt: &impl Print, answer: GradeAnswer) -> io::Result<()> {
     match answer {
-        GradeAnswer::Of(grade) => output::number(grade.minutes as u64),
-        GradeAnswer::Refused(n) => output::refused(n),
+        GradeAnswer::Of(grade) => output::number(rt, grade.minutes as u64),
+        GradeAnswer::Refused(n) => output::refused(rt, n),
     }
 }
 
-pub fn answer_grade(line: &[u8]) {
-    output::text(b"grade ");
-    print_answer(grades::calls::grade_of(number16(first_word(line))));
-    output::end_line(after_word(line));
+pub fn answer_grade(rt: &impl Print, line: &[u8]) -> io::Result<()> {
+    output::text(rt, b"grade ")?;
+    print_answer(rt, grades::calls::grade_of(number16(first_word(line))))?;
+    output::end_line(rt, after_word(line))
 }
 
-pub fn answer_rei(line: &[u8]) {
+pub fn answer_rei(rt: &impl Print, line: &[u8]) -> io::Result<()> {
     let rest = after_word(line);
     let r = number16(first_word(line));
     let ei = number16(first_word(rest));
-    output::text(b"rei ");
-    print_answer(grades::calls::rei_of(r, ei));
-    output::end_line(after_word(rest));
+    output::text(rt, b"rei ")?;
+    print_answer(rt, grades::calls::rei_of(r, ei))?;
+    output::end_line(rt, after_word(rest))
 }
 
-pub fn answer_load_grade(line: &[u8]) {
-    output::text(b"loadgrade ");
-    print_answer(ratings::calls::load_grade(panel_of(first_word(line))));
-    output::end_line(after_word(line));
+pub fn answer_load_grade(rt: &impl Print, line: &[u8]) -> io::Result<()> {
+    output::text(rt, b"loadgrade ")?;
+    print_answer(rt, ratings::calls::load_grade(panel_of(first_word(line))))?;
+    output::end_line(rt, after_word(line))
 }
 
-pub fn answer_ei_grade(line: &[u8]) {
-    output::text(b"eigrade ");
-    print_answer(ratings::calls::ei_grade(panel_of(first_word(line))));
-    output::end_line(after_word(line));
+pub fn answer_ei_grade(rt: &impl Print, line: &[u8]) -> io::Result<()> {
+    output::text(rt, b"eigrade ")?;
+    print_answer(rt, ratings::calls::ei_grade(panel_of(first_word(line))))?;
+    output::end_line(rt, after_word(line))
 }
 
-pub fn answer_rei_grade(line: &[u8]) {
-    output::text(b"reigrade ");
-    print_answer(ratings::calls::rei_grade(panel_of(first_word(line))));
-    output::end_line(after_word(line));
+pub fn answer_rei_grade(rt: &impl Print, line: &[u8]) -> io::Result<()> {
+    output::text(rt, b"reigrade ")?;
+    print_answer(rt, ratings::calls::rei_grade(panel_of(first_word(line))))?;
+    output::end_line(rt, after_word(line))
 }

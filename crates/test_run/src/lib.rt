@@ -1,6 +1,8 @@
 // The whole of the test programs that differ in their stored input alone. Answers each line of the input: its first word names a call,
 // and the module of that call says what follows and what is printed. The answer begins with the same word. A line with another first
 // word gives `unknown` and what follows. A new call is a module or a function of one, and two lines below.
+#![tactic(auto)]
+
 mod builds;
 mod cards;
 mod chars;
@@ -15,111 +17,116 @@ mod tables;
 mod times;
 mod writes;
 
-use libc::STDIN_FILENO;
+use std::io;
+use std::io::Read;
 use test_lines::input::{after_word, is_word, line_at, next_line};
 use test_lines::output;
 
+// How many bytes of the input are read.
+const INPUT_MOST: u64 = 65536;
+
 // The words stand in short chains, each of which hands the words that it does not know to the next: one long chain takes the prover
 // twice as long.
-fn answer_records(line: &[u8]) {
+fn answer_records(rt: &impl Print, line: &[u8]) -> io::Result<()> {
     let rest = after_word(line);
     if is_word(line, b"read") {
-        reads::answer(rest);
+        reads::answer(rt, rest)
     } else if is_word(line, b"write") {
-        writes::answer(rest);
+        writes::answer(rt, rest)
     } else if is_word(line, b"build") {
-        builds::answer(rest);
+        builds::answer(rt, rest)
     } else {
-        answer_sections(line);
+        answer_sections(rt, line)
     }
 }
 
-fn answer_sections(line: &[u8]) {
+fn answer_sections(rt: &impl Print, line: &[u8]) -> io::Result<()> {
     let rest = after_word(line);
     if is_word(line, b"section") {
-        sections::answer_section(rest);
+        sections::answer_section(rt, rest)
     } else if is_word(line, b"carried") {
-        sections::answer_carried(rest);
+        sections::answer_carried(rt, rest)
     } else {
-        answer_charring(line);
+        answer_charring(rt, line)
     }
 }
 
-fn answer_charring(line: &[u8]) {
+fn answer_charring(rt: &impl Print, line: &[u8]) -> io::Result<()> {
     let rest = after_word(line);
     if is_word(line, b"char") {
-        chars::answer(rest);
+        chars::answer(rt, rest)
     } else if is_word(line, b"table") {
-        tables::answer(rest);
+        tables::answer(rt, rest)
     } else {
-        answer_layers(line);
+        answer_layers(rt, line)
     }
 }
 
-fn answer_layers(line: &[u8]) {
+fn answer_layers(rt: &impl Print, line: &[u8]) -> io::Result<()> {
     let rest = after_word(line);
     if is_word(line, b"time") {
-        times::answer(rest);
+        times::answer(rt, rest)
     } else if is_word(line, b"sum") {
-        sums::answer(rest);
+        sums::answer(rt, rest)
     } else if is_word(line, b"grade") {
-        gradings::answer_grade(rest);
+        gradings::answer_grade(rt, rest)
     } else if is_word(line, b"rei") {
-        gradings::answer_rei(rest);
+        gradings::answer_rei(rt, rest)
     } else {
-        answer_cards(line);
+        answer_cards(rt, line)
     }
 }
 
-fn answer_cards(line: &[u8]) {
+fn answer_cards(rt: &impl Print, line: &[u8]) -> io::Result<()> {
     let rest = after_word(line);
     if is_word(line, b"card") {
-        cards::answer_card(rest);
+        cards::answer_card(rt, rest)
     } else if is_word(line, b"refusal") {
-        cards::answer_refusal(rest);
+        cards::answer_refusal(rt, rest)
     } else {
-        answer_loads(line);
+        answer_loads(rt, line)
     }
 }
 
-fn answer_loads(line: &[u8]) {
+fn answer_loads(rt: &impl Print, line: &[u8]) -> io::Result<()> {
     let rest = after_word(line);
     if is_word(line, b"load") {
-        loads::answer_load(rest);
+        loads::answer_load(rt, rest)
     } else if is_word(line, b"seconds") {
-        loads::answer_seconds(rest);
+        loads::answer_seconds(rt, rest)
     } else if is_word(line, b"reserve") {
-        loads::answer_reserve(rest);
+        loads::answer_reserve(rt, rest)
     } else {
-        answer_ratings(line);
+        answer_ratings(rt, line)
     }
 }
 
-fn answer_ratings(line: &[u8]) {
+fn answer_ratings(rt: &impl Print, line: &[u8]) -> io::Result<()> {
     let rest = after_word(line);
     if is_word(line, b"loadgrade") {
-        gradings::answer_load_grade(rest);
+        gradings::answer_load_grade(rt, rest)
     } else if is_word(line, b"eigrade") {
-        gradings::answer_ei_grade(rest);
+        gradings::answer_ei_grade(rt, rest)
     } else if is_word(line, b"reigrade") {
-        gradings::answer_rei_grade(rest);
+        gradings::answer_rei_grade(rt, rest)
     } else if is_word(line, b"planing") {
-        planings::answer(rest);
+        planings::answer(rt, rest)
     } else {
-        output::unknown(rest);
+        output::unknown(rt, rest)
     }
 }
 
-fn answer_all(text: &[u8]) {
+fn answer_all(rt: &impl Print, text: &[u8]) -> io::Result<()> {
     let mut at = 0;
     while at < text.len() {
-        answer_records(line_at(text, at));
+        answer_records(rt, line_at(text, at))?;
         at = next_line(text, at);
     }
+    Ok(())
 }
 
-pub fn run() {
-    let mut input = io::large_buffer();
-    let n = io::read_full(STDIN_FILENO, &mut input);
-    answer_all(&input[..n]);
+pub fn run<R: Input + Print + AllocGlobal>(rt: &R) -> io::Result<()> {
+    let mut input = Vec::new(rt.alloc());
+    rt.reader().take(INPUT_MOST).read_to_end(&mut input)?;
+    answer_all(rt, &input)
 }

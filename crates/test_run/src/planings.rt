@@ -2,26 +2,27 @@
 // tenths of mm, or `none`, or the refusal, and the text. A refused record stands for a blank panel.
 use crate::records::panel_of;
 use planing::PlaningAnswer;
+use std::io;
 use test_lines::input::{after_word, first_word};
 use test_lines::output;
 
-fn print_cut(place: u8, tenths: u16) {
-    output::text(b"place ");
-    output::number(place as u64);
-    output::text(b" tenths ");
-    output::number(tenths as u64);
+fn print_cut(rt: &impl Print, place: u8, tenths: u16) -> io::Result<()> {
+    output::text(rt, b"place ")?;
+    output::number(rt, place as u64)?;
+    output::text(rt, b" tenths ")?;
+    output::number(rt, tenths as u64)
 }
 
-fn print_planing(answer: PlaningAnswer) {
+fn print_planing(rt: &impl Print, answer: PlaningAnswer) -> io::Result<()> {
     match answer {
-        PlaningAnswer::PlaceAndTenths(place, tenths) => print_cut(place, tenths),
-        PlaningAnswer::NoCut => output::text(b"none"),
-        PlaningAnswer::Refused(n) => output::refused(n),
+        PlaningAnswer::PlaceAndTenths(place, tenths) => print_cut(rt, place, tenths),
+        PlaningAnswer::NoCut => output::text(rt, b"none"),
+        PlaningAnswer::Refused(n) => output::refused(rt, n),
     }
 }
 
-pub fn answer(line: &[u8]) {
-    output::text(b"planing ");
-    print_planing(planing::calls::planing(panel_of(first_word(line))));
-    output::end_line(after_word(line));
+pub fn answer(rt: &impl Print, line: &[u8]) -> io::Result<()> {
+    output::text(rt, b"planing ")?;
+    print_planing(rt, planing::calls::planing(panel_of(first_word(line))))?;
+    output::end_line(rt, after_word(line))
 }

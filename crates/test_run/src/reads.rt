@@ -2,13 +2,14 @@
 // number 0, it also says whether writing the panel gives back the very bytes.
 use panel::Panel;
 use record::Writing;
+use std::io;
 use test_lines::input::{after_word, first_word, hex_bytes};
 use test_lines::output;
 
 // Whether the first k bytes of the space are these.
 fn is_front(space: &[u8], k: usize, bytes: &[u8]) -> bool {
     if k <= space.len() {
-        check::same(&space[0..k], bytes)
+        &space[0..k] == bytes
     } else {
         false
     }
@@ -23,24 +24,25 @@ fn gives_back(p: Panel, bytes: &[u8]) -> bool {
     }
 }
 
-fn print_reading(bytes: &[u8]) {
+fn print_reading(rt: &impl Print, bytes: &[u8]) -> io::Result<()> {
     let reading = record::calls::read(bytes);
     let refusal = reading.refusal;
-    output::number(refusal as u64);
+    output::number(rt, refusal as u64)?;
     if refusal == 0 {
         let p = reading.panel;
         if gives_back(p, bytes) {
-            output::text(b" same");
+            output::text(rt, b" same")?;
         } else {
-            output::text(b" differs");
+            output::text(rt, b" differs")?;
         }
     }
+    Ok(())
 }
 
-pub fn answer(line: &[u8]) {
+pub fn answer(rt: &impl Print, line: &[u8]) -> io::Result<()> {
     let mut bytes = [0u8; 128];
     let n = hex_bytes(first_word(line), &mut bytes);
-    output::text(b"read ");
-    print_reading(&bytes[..n]);
-    output::end_line(after_word(line));
+    output::text(rt, b"read ")?;
+    print_reading(rt, &bytes[..n])?;
+    output::end_line(rt, after_word(line))
 }

@@ -17,42 +17,46 @@ use panel::timber::factor_of;
 use section::Section;
 use section::carry::{carried_at_start, deeper};
 use section::test::section_passes;
+use std::io;
 use test_lines::input::{after_word, first_word, number};
 use test_lines::output;
 
-fn print_number(n: u64) {
-    output::number(n);
-    output::text(b" ");
+fn print_number(rt: &impl Print, n: u64) -> io::Result<()> {
+    output::number(rt, n)?;
+    output::text(rt, b" ")
 }
 
-fn print_section(s: Section) {
-    print_number(s.n);
-    print_number(s.p);
-    print_number(s.q);
-    print_number(s.lo);
-    print_number(s.hi);
+fn print_section(rt: &impl Print, s: Section) -> io::Result<()> {
+    print_number(rt, s.n)?;
+    print_number(rt, s.p)?;
+    print_number(rt, s.q)?;
+    print_number(rt, s.lo)?;
+    print_number(rt, s.hi)
 }
 
-fn print_answer(answer: SectionAnswer) {
+fn print_answer(rt: &impl Print, answer: SectionAnswer) -> io::Result<()> {
     match answer {
         SectionAnswer::At(s, passes) => {
-            print_section(s);
+            print_section(rt, s)?;
             if passes {
-                output::text(b"passes");
+                output::text(rt, b"passes")
             } else {
-                output::text(b"fails");
+                output::text(rt, b"fails")
             }
         }
-        SectionAnswer::Refused(n) => output::refused(n),
+        SectionAnswer::Refused(n) => output::refused(rt, n),
     }
 }
 
-pub fn answer_section(line: &[u8]) {
+pub fn answer_section(rt: &impl Print, line: &[u8]) -> io::Result<()> {
     let depth = number(first_word(line));
     let rest = after_word(line);
-    output::text(b"section ");
-    print_answer(limits::calls::section(panel_of(first_word(rest)), depth));
-    output::end_line(after_word(rest));
+    output::text(rt, b"section ")?;
+    print_answer(
+        rt,
+        limits::calls::section(panel_of(first_word(rest)), depth),
+    )?;
+    output::end_line(rt, after_word(rest))
 }
 
 // No open call: no line may turn the panel back.
@@ -83,10 +87,10 @@ fn carried_answer(p: Panel, depth: u32) -> SectionAnswer {
     )
 }
 
-pub fn answer_carried(line: &[u8]) {
+pub fn answer_carried(rt: &impl Print, line: &[u8]) -> io::Result<()> {
     let depth = number(first_word(line));
     let rest = after_word(line);
-    output::text(b"carried ");
-    print_answer(carried_answer(panel_of(first_word(rest)), depth));
-    output::end_line(after_word(rest));
+    output::text(rt, b"carried ")?;
+    print_answer(rt, carried_answer(panel_of(first_word(rest)), depth))?;
+    output::end_line(rt, after_word(rest))
 }

@@ -3,30 +3,31 @@
 use crate::records::panel_of;
 use layers::LayerAnswer;
 use panel::Panel;
+use std::io;
 use test_lines::input::{after_word, first_word};
 use test_lines::output;
 
-fn print_ei(answer: LayerAnswer) {
+fn print_ei(rt: &impl Print, answer: LayerAnswer) -> io::Result<()> {
     match answer {
-        LayerAnswer::Value(minutes) => output::number(minutes as u64),
-        LayerAnswer::Refused(n) => output::refused(n),
+        LayerAnswer::Value(minutes) => output::number(rt, minutes as u64),
+        LayerAnswer::Refused(n) => output::refused(rt, n),
     }
 }
 
-fn print_sum(p: Panel) {
+fn print_sum(rt: &impl Print, p: Panel) -> io::Result<()> {
     let answer = layers::calls::ei_sum(p);
     match answer {
         LayerAnswer::Value(sum) => {
-            output::number(sum as u64);
-            output::text(b" EI ");
-            print_ei(layers::calls::ei(p));
+            output::number(rt, sum as u64)?;
+            output::text(rt, b" EI ")?;
+            print_ei(rt, layers::calls::ei(p))
         }
-        LayerAnswer::Refused(n) => output::refused(n),
+        LayerAnswer::Refused(n) => output::refused(rt, n),
     }
 }
 
-pub fn answer(line: &[u8]) {
-    output::text(b"sum ");
-    print_sum(panel_of(first_word(line)));
-    output::end_line(after_word(line));
+pub fn answer(rt: &impl Print, line: &[u8]) -> io::Result<()> {
+    output::text(rt, b"sum ")?;
+    print_sum(rt, panel_of(first_word(line)))?;
+    output::end_line(rt, after_word(line))
 }

@@ -7,6 +7,7 @@ use crate::records::panel_of;
 use charring::TableAnswer;
 use numbers::sizes::lesser;
 use panel::Panel;
+use std::io;
 use test_lines::input::{after_word, first_word, number};
 use test_lines::output;
 
@@ -16,16 +17,16 @@ fn fill_table(p: Panel, out: &mut [u32], space: usize) -> TableAnswer
     charring::calls::depth_table(p, &mut out[0..space])
 }
 
-fn print_filled(answer: TableAnswer) {
+fn print_filled(rt: &impl Print, answer: TableAnswer) -> io::Result<()> {
     match answer {
-        TableAnswer::Filled => output::text(b"filled"),
-        TableAnswer::Refused(n) => output::refused(n),
+        TableAnswer::Filled => output::text(rt, b"filled"),
+        TableAnswer::Refused(n) => output::refused(rt, n),
     }
 }
 
-fn print_number(n: u64) {
-    output::text(b" ");
-    output::number(n);
+fn print_number(rt: &impl Print, n: u64) -> io::Result<()> {
+    output::text(rt, b" ")?;
+    output::number(rt, n)
 }
 
 fn wide(entry: u32) -> u64
@@ -34,12 +35,12 @@ fn wide(entry: u32) -> u64
     entry as u64
 }
 
-fn print_entry(entry: u32) {
-    print_number(wide(entry));
+fn print_entry(rt: &impl Print, entry: u32) -> io::Result<()> {
+    print_number(rt, wide(entry))
 }
 
 // The sum of the entries, and the sum of each times its place: from the last entry on, what has been summed so far is added up.
-fn print_sums(entries: [u32; 400]) {
+fn print_sums(rt: &impl Print, entries: [u32; 400]) -> io::Result<()> {
     let mut sum: u64 = 0;
     let mut placed: u64 = 0;
     let mut i = 400;
@@ -48,27 +49,27 @@ fn print_sums(entries: [u32; 400]) {
         placed += sum;
         sum += wide(entries[i]);
     }
-    print_number(sum);
-    print_number(placed);
+    print_number(rt, sum)?;
+    print_number(rt, placed)
 }
 
-fn print_table(p: Panel, space: usize)
+fn print_table(rt: &impl Print, p: Panel, space: usize) -> io::Result<()>
     requires { space ≤ 400 }
 {
     let mut entries = [7u32; 400];
     let answer = fill_table(p, &mut entries, space);
-    print_filled(answer);
-    print_sums(entries);
-    print_entry(entries[0]);
-    print_entry(entries[90]);
-    print_entry(entries[360]);
-    print_entry(entries[361]);
+    print_filled(rt, answer)?;
+    print_sums(rt, entries)?;
+    print_entry(rt, entries[0])?;
+    print_entry(rt, entries[90])?;
+    print_entry(rt, entries[360])?;
+    print_entry(rt, entries[361])
 }
 
-pub fn answer(line: &[u8]) {
+pub fn answer(rt: &impl Print, line: &[u8]) -> io::Result<()> {
     let space = lesser(number(first_word(line)) as usize, 400);
     let rest = after_word(line);
-    output::text(b"table ");
-    print_table(panel_of(first_word(rest)), space);
-    output::end_line(after_word(rest));
+    output::text(rt, b"table ")?;
+    print_table(rt, panel_of(first_word(rest)), space)?;
+    output::end_line(rt, after_word(rest))
 }

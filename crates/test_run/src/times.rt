@@ -4,42 +4,51 @@
 use basic_times::calls::basic_time;
 use basic_times::{Role, TimeAnswer};
 use panel::Material;
+use std::io;
 use test_lines::input::{after_word, first_word, is_word, number16};
 use test_lines::output;
 
-fn print_answer(answer: TimeAnswer) {
+fn print_answer(rt: &impl Print, answer: TimeAnswer) -> io::Result<()> {
     match answer {
-        TimeAnswer::Time(t) => output::number(t as u64),
-        TimeAnswer::Refused(n) => output::refused(n),
+        TimeAnswer::Time(t) => output::number(rt, t as u64),
+        TimeAnswer::Refused(n) => output::refused(rt, n),
     }
 }
 
 // Prints the time if the line begins with one of the two words; says whether it does.
-fn prints(line: &[u8], protection: &[u8], insulation: &[u8], m: Material, h: u16) -> bool {
+fn prints(
+    rt: &impl Print,
+    line: &[u8],
+    protection: &[u8],
+    insulation: &[u8],
+    m: Material,
+    h: u16,
+) -> io::Result<bool> {
     if is_word(line, protection) {
-        print_answer(basic_time(Role::Protection, m, h));
-        return true;
+        print_answer(rt, basic_time(Role::Protection, m, h))?;
+        return Ok(true);
     }
     if is_word(line, insulation) {
-        print_answer(basic_time(Role::Insulation, m, h));
-        return true;
+        print_answer(rt, basic_time(Role::Insulation, m, h))?;
+        return Ok(true);
     }
-    false
+    Ok(false)
 }
 
-fn print_time(line: &[u8], h: u16) {
-    let gypsum = prints(line, b"bp", b"bi", Material::Gypsum, h);
-    let wood = prints(line, b"lp", b"li", Material::Wood, h);
-    let osb = prints(line, b"op", b"oi", Material::Osb, h);
-    let particle_board = prints(line, b"pp", b"pi", Material::ParticleBoard, h);
+fn print_time(rt: &impl Print, line: &[u8], h: u16) -> io::Result<()> {
+    let gypsum = prints(rt, line, b"bp", b"bi", Material::Gypsum, h)?;
+    let wood = prints(rt, line, b"lp", b"li", Material::Wood, h)?;
+    let osb = prints(rt, line, b"op", b"oi", Material::Osb, h)?;
+    let particle_board = prints(rt, line, b"pp", b"pi", Material::ParticleBoard, h)?;
     if !(gypsum | wood | osb | particle_board) {
-        output::text(b"unknown");
+        output::text(rt, b"unknown")?;
     }
+    Ok(())
 }
 
-pub fn answer(line: &[u8]) {
+pub fn answer(rt: &impl Print, line: &[u8]) -> io::Result<()> {
     let rest = after_word(line);
-    output::text(b"time ");
-    print_time(line, number16(first_word(rest)));
-    output::end_line(after_word(rest));
+    output::text(rt, b"time ")?;
+    print_time(rt, line, number16(first_word(rest)))?;
+    output::end_line(rt, after_word(rest))
 }

@@ -6,6 +6,7 @@ use crate::records::panel_of;
 use numbers::sizes::lesser;
 use panel::Panel;
 use record::Writing;
+use std::io;
 use test_lines::input::{after_word, first_word, number};
 use test_lines::output;
 
@@ -15,30 +16,30 @@ fn write_into(p: Panel, out: &mut [u8], space: usize) -> Writing
     record::calls::write(p, &mut out[0..space])
 }
 
-fn print_answer(answer: Writing) {
+fn print_answer(rt: &impl Print, answer: Writing) -> io::Result<()> {
     match answer {
         Writing::Written(k) => {
-            output::text(b"written ");
-            output::number(k as u64);
+            output::text(rt, b"written ")?;
+            output::number(rt, k as u64)
         }
-        Writing::Refused(n) => output::refused(n),
+        Writing::Refused(n) => output::refused(rt, n),
     }
 }
 
-fn print_writing(p: Panel, space: usize)
+fn print_writing(rt: &impl Print, p: Panel, space: usize) -> io::Result<()>
     requires { space ≤ 64 }
 {
     let mut bytes = [238u8; 64];
     let answer = write_into(p, &mut bytes, space);
-    print_answer(answer);
-    output::text(b" ");
-    output::hex(&bytes);
+    print_answer(rt, answer)?;
+    output::text(rt, b" ")?;
+    output::hex(rt, &bytes)
 }
 
-pub fn answer(line: &[u8]) {
+pub fn answer(rt: &impl Print, line: &[u8]) -> io::Result<()> {
     let space = lesser(number(first_word(line)) as usize, 64);
     let rest = after_word(line);
-    output::text(b"write ");
-    print_writing(panel_of(first_word(rest)), space);
-    output::end_line(after_word(rest));
+    output::text(rt, b"write ")?;
+    print_writing(rt, panel_of(first_word(rest)), space)?;
+    output::end_line(rt, after_word(rest))
 }
