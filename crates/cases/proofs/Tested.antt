@@ -90,6 +90,9 @@ module _ (unit : ℕ) (positive : 0 < unit) where
     where
       each : (a b c : Bool) → T (a && b && c) → T a × T b × T c
       each true true true t = (tt, tt, tt)
+      each false b c t = elim t [ ]
+      each true false c t = elim t [ ]
+      each true true false t = elim t [ ]
 
       next : (a b : Bool) → a ≡ true → (a && b) ≡ false → b ≡ false
       next true b e f = f
@@ -128,6 +131,7 @@ module _ (unit : ℕ) (positive : 0 < unit) where
       let e = rest.1 in
       (rest.0, omega arith))
       (IsTrue-either (last_part unit fire m && pass_in_every unit (next ∷ more) m) (time_test fire m unit && last_in_one unit (next ∷ more) m) t)
+  least_part [] m t = elim t [ ]
 
 bears_tested : (p : Panel) (m : ℕ) → T (test (bears p m)) → Holds (bears p m)
 unfolding load_minute
