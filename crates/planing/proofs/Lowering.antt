@@ -5,7 +5,7 @@ use mathlib.Core.Bool.{Bool, true, false, not}
 use native.Mathlib.Omega.{arith}
 use native.Mathlib.Decide.{dec_le}
 use borrow.Author.Tests.{leb-true, leb-false, lt-ltb, le-ltb}
-use lib.Dec.{leb, ltb}
+use lib.Dec.{ltb}
 use Rattle.numbers.specs.Choice.{pick}
 use Rattle.panel.specs.declared.Panel.{Panel}
 use Rattle.limits.specs.Causes.{last_minute, bad_section}

@@ -9,11 +9,9 @@ use native.Mathlib.Decide.{dec_lt}
 use native.Mathlib.Nat.{le_antisymm}
 use borrow.Author.Tests.{ltb-true, ltb-false, lt-ltb}
 use lib.Dec.{ltb}
-use Rattle.numbers.specs.Least.{least}
 use Rattle.numbers.proofs.Booleans.{and_left, and_right, not_both}
 use Rattle.numbers.proofs.LeastKept.{least_keeps, least_before}
 use Rattle.panel.specs.declared.Panel.{Panel}
-use Rattle.limits.specs.Lines.{answer}
 use Rattle.limits.specs.Refusals.{panel_refusal}
 use Rattle.ratings.specs.Answers.{rei_grade}
 use Rattle.planing.specs.declared.PlaningAnswer.{PlaningAnswer}
@@ -128,3 +126,6 @@ planing_unique p (PlaceAndTenths place tenths) (PlaceAndTenths place' tenths') h
 planing_unique p (PlaceAndTenths place tenths) NoCut h k = absurd (k _ h.lowering)
 planing_unique p NoCut (PlaceAndTenths place tenths) h k = absurd (h _ k.lowering)
 planing_unique p NoCut NoCut h k = refl
+planing_unique p (PlaceAndTenths place tenths) (Rattle.planing.specs.declared.PlaningAnswer.TheVariants.Refused _) h k = elim k [ ]
+planing_unique p NoCut (Rattle.planing.specs.declared.PlaningAnswer.TheVariants.Refused _) h k = elim k [ ]
+planing_unique p (Rattle.planing.specs.declared.PlaningAnswer.TheVariants.Refused _) b h k = elim h [ ]

@@ -1,4 +1,6 @@
 // How much may be planed off one lamella before the REI grade falls (document 02, 7/14).
+#![tactic(auto)]
+
 pub mod calls;
 mod cuts;
 mod search;

@@ -8,20 +8,14 @@ use borrow.Author.Rules.{rules}
 use lib.ListN.{length}
 use mathlib.Core.Path.{◌≡◌, sym, ap, ◌∙◌}
 use native.Mathlib.Omega.{arith}
-use Rattle.planing.proofs.cuts.cut_panel.Statement.{statement}
-use Rattle.planing.proofs.cuts.cut_panel.Tie as tie
+use Rattle.planing.proofs.cuts.cut_panel.Goals as goal
 
-returns : tie.Need-returns
+pub returns : goal.returns
 returns c =
-    let start = c.before.before in
+    let start = c in
     let p = start.args.p in
     let at = start.args.at in
     let tenths = start.args.tenths in
     let nine : length p.thicknesses ≡ 9 = search rules in
-    let cut = cut_arrays p.directions p.thicknesses p.count at tenths start.requires.0.0 (omega (arith, nine, start.requires.0.0, start.requires.0.1)) in
+    let cut = cut_arrays p.directions p.thicknesses p.count at tenths start.requires.at_lt_count.0 (omega (arith, nine, start.requires.at_lt_count.0, start.requires.at_lt_count.1)) in
     ap (with_lamellae p) (cut ∙ sym (lamellae_with p (thinned (suc at) tenths (lamellae p))))
-
-pub cut-panel-spec : {M : Type 1} → statement M
-cut-panel-spec =
-    tie.close
-    (tie.spec (λ c. search rules) (λ c. search rules) (λ c. search rules) (λ c. search rules) (λ c. search rules) returns)

@@ -1,0 +1,30 @@
+-- `planing::cuts::is_lowered` meets its contract: neither R nor the grade need be worked out. Assumes nothing.
+use Prim.Native.Nat.{ℕ}
+use Rattle.planing.proofs.Lowering.{fails_lowered, lasting_accepted, lasting_by_ei}
+use lib.Dec.{ltb}
+use mathlib.Core.Path.{sym, ap, ◌∙◌}
+use Rattle.planing.proofs.cuts.is_lowered.Goals as goal
+
+pub returns-then-not-lasts : goal.returns-then-not-lasts
+returns-then-not-lasts c =
+    let start = c in
+    let lasting = c.lasts in
+    sym
+    (fails_lowered start.args.minutes start.args.q start.requires.minutes_le_last_minute.0 start.requires.minutes_le_last_minute.1 start.requires.q_value
+    (sym lasting.ensures ∙ c.if-not-lasts.true))
+
+pub ei_minute_of-requires : goal.ei_minute_of-requires
+ei_minute_of-requires c =
+    let start = c in
+    let lasting = c.lasts in
+    lasting_accepted start.args.minutes start.args.q start.requires.minutes_le_last_minute.0 start.requires.minutes_le_last_minute.1 start.requires.q_value
+    (sym lasting.ensures ∙ c.if-not-lasts.false)
+
+pub returns : goal.returns
+returns c =
+    let start = c in
+    let lasting = c.lasts in
+    ap (λ (ei : ℕ). ltb ei start.args.minutes) c.ei_minute_of.ensures.0
+    ∙ sym
+    (lasting_by_ei start.args.minutes start.args.q start.requires.minutes_le_last_minute.0 start.requires.minutes_le_last_minute.1 start.requires.q_value
+    (sym lasting.ensures ∙ c.if-not-lasts.false))

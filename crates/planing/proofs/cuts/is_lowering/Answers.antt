@@ -1,0 +1,75 @@
+-- `planing::cuts::is_lowering` meets its contract: the panel that it makes differs from the cut one at most in unused places.
+-- Assumes nothing.
+use Prim.Native.Nat.{ℕ, suc, ◌≤◌}
+use Rattle.grades.specs.Grades.{grade_of}
+use Rattle.grades.specs.declared.Grade.{Grade}
+use Rattle.limits.proofs.Accepted.{accepted_fits}
+use Rattle.limits.proofs.Unused.{to12_unused}
+use Rattle.limits.specs.Causes.{last_minute}
+use Rattle.planing.proofs.CutArrays.{thickness_here}
+use Rattle.planing.proofs.CutPanels.{allowed_means, cut_to12}
+use Rattle.planing.proofs.Lowering.{rei_is_grade}
+use Rattle.planing.proofs.Unused.{lowered_same}
+use Rattle.planing.specs.Cuts.{Cut, cut_panel, allowed, lowered}
+use Rattle.ratings.specs.Answers.{rei_grade}
+use mathlib.Core.Bool.{Bool, true, ◌&&◌}
+use mathlib.Core.Path.{◌≡◌, sym, ap, subst, ◌∙◌}
+use native.Mathlib.Omega.{arith}
+use Rattle.planing.proofs.cuts.is_lowering.Goals as goal
+
+-- the cut of a call
+abbrev cut_of : ℕ → ℕ → Cut
+cut_of at tenths = record { place = suc at; tenths = tenths }
+
+pub is_allowed-requires : goal.is_allowed-requires
+is_allowed-requires c =
+    let asked = c.requires.at_lt_count in
+    record {
+      at_lt_count = (asked.0, (accepted_fits c.args.p c.requires.p_value.0).count);
+      tenths_nonzero = asked.1;
+    }
+
+pub returns-then-not-is_allowed : goal.returns-then-not-is_allowed
+returns-then-not-is_allowed c =
+    let start = c in
+    let one = c.is_allowed in
+    let p = start.args.p in
+    sym
+    (ap (λ (b : Bool). b && lowered (rei_grade p).minutes (cut_panel p (cut_of start.args.at start.args.tenths)))
+    (sym one.ensures ∙ c.if-not-is_allowed.true))
+
+pub cut_panel-requires : goal.cut_panel-requires
+cut_panel-requires c =
+    let start = c in
+    let one = c.is_allowed in
+    let cut = cut_of start.args.at start.args.tenths in
+    let kept = (allowed_means start.args.p cut (sym one.ensures ∙ c.if-not-is_allowed.false)).kept in
+    let at = start.requires.at_lt_count.0 in
+    record {
+      at_lt_count = (at, (accepted_fits start.args.p start.requires.p_value.0).count);
+      tenths_bound = omega (arith, kept, thickness_here start.args.p start.args.at at);
+    }
+
+pub is_lowered-requires : goal.is_lowered-requires
+is_lowered-requires c =
+    let start = c in
+    let p = start.args.p in
+    let one = c.is_allowed in
+    let cut = cut_of start.args.at start.args.tenths in
+    let kept = sym one.ensures ∙ c.if-not-is_allowed.false in record {
+      minutes_le_last_minute = subst (λ (g : Grade). (g.minutes ≤ last_minute) × ((grade_of g.minutes).minutes ≡ g.minutes)) (sym start.requires.p_value.1) (rei_is_grade p);
+      q_value = to12_unused c.cut_panel.result (cut_panel p cut) c.cut_panel.ensures ∙ cut_to12 p cut start.requires.p_value.0 kept;
+    }
+
+pub returns : goal.returns
+returns c =
+    let start = c in
+    let p = start.args.p in
+    let made = c.cut_panel in
+    let one = c.is_allowed in
+    let cut = cut_of start.args.at start.args.tenths in
+    let kept : allowed p cut ≡ true = sym one.ensures ∙ c.if-not-is_allowed.false in
+    c.is_lowered.ensures
+    ∙ lowered_same _ made.result (cut_panel p cut) made.ensures
+    ∙ ap (λ (g : Grade). lowered g.minutes (cut_panel p cut)) start.requires.p_value.1
+    ∙ sym (ap (λ (b : Bool). b && lowered (rei_grade p).minutes (cut_panel p cut)) kept)
