@@ -1,4 +1,6 @@
 // The fire card (document 01, the printed card): the text of a record's card, or of its refusal, in lent bytes.
+#![tactic(auto)]
+
 pub mod calls;
 mod lines;
 

@@ -1,0 +1,10 @@
+-- `fire_card::lines::put_chars` meets its contract: each line begins where the one before ends. Assumes nothing.
+use Rattle.card_text.proofs.Storing.{put_then}
+use Rattle.fire_card.proofs.lines.put_chars.Goals as goal
+
+pub returns : goal.returns
+returns c =
+    let c6 = c in
+    let c10 = c6 in
+    put_then (put_then (put_then c10.put_char-at30.ensures c10.put_char-at60.ensures)
+    c6.put_char-at90.ensures) c.put_char.ensures
