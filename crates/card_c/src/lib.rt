@@ -1,5 +1,7 @@
-// The open calls of the card and of planing under plain names, for programs in C: `c/yurbantse.h` declares them. They ask nothing of their
-// caller.
+// The open calls of the card and of planing under plain names, for programs in C: `c/yurbantse.h` declares them, and the static library
+// `card_c_c` exports them. They ask nothing of their caller.
+#![tactic(auto)]
+
 ghost use Rattle.std.specs.Prelude.{◌≡◌};
 ghost use Rattle.fire_card.specs.Answers.{card_answer, card_after, refusal_answer, refusal_after};
 ghost use Rattle.card_c.specs.Exported.{exported, Short};
@@ -20,8 +22,7 @@ fn number_of(answer: CardAnswer) -> i32
 }
 
 // The card of a record: the bytes written, or minus the refusal's number.
-#[unsafe(no_mangle)]
-pub extern "C" fn yurbantse_card(bytes: &[u8], out: &mut [u8]) -> i32
+pub fn yurbantse_card(bytes: &[u8], out: &mut [u8]) -> i32
     ensures value { result ≡ exported (card_answer bytes.now out.old) }
     ensures out_after { out.new ≡ card_after bytes.now out.old }
 {
@@ -29,8 +30,7 @@ pub extern "C" fn yurbantse_card(bytes: &[u8], out: &mut [u8]) -> i32
 }
 
 // The text of a refusal: the bytes written, or minus 14.
-#[unsafe(no_mangle)]
-pub extern "C" fn yurbantse_refusal(n: u8, out: &mut [u8]) -> i32
+pub fn yurbantse_refusal(n: u8, out: &mut [u8]) -> i32
     ensures value { result ≡ exported (refusal_answer n out.old) }
     ensures out_after { out.new ≡ refusal_after n out.old }
 {
@@ -64,8 +64,7 @@ fn cut_number(answer: PlaningAnswer) -> i32
 
 // The least cut of one lamella that lowers the REI grade of the record's panel: 1,000 times the lamella's place and the tenths of mm, 0
 // where no cut does, or minus the refusal's number.
-#[unsafe(no_mangle)]
-pub extern "C" fn yurbantse_planing(bytes: &[u8]) -> i32
+pub fn yurbantse_planing(bytes: &[u8]) -> i32
     ensures { result ≡ exported_cut (record_planing bytes.now) }
 {
     cut_number(planing_of(bytes))

@@ -7,28 +7,23 @@ use Rattle.planing.specs.declared.PlaningAnswer.TheVariants.{Refused}
 use Rattle.record.proofs.Sound.{record_panel}
 use Rattle.record.specs.Layouts.{panel_of}
 use Rattle.record.specs.declared.Reading.{Reading}
-use borrow.Author.Rules.{rules}
 use mathlib.Core.Path.{sym, ap, ◌∙◌}
-use Rattle.card_c.proofs.planing_of.Statement.{statement}
-use Rattle.card_c.proofs.planing_of.Tie as tie
+use Rattle.card_c.proofs.planing_of.Goals as goal
 
-returns : tie.Need-returns
+pub returns-then-reading-ne0 : goal.returns-then-reading-ne0
 unfolding record_planing
-returns c =
-    let r = c.before.before in
-    let b = r.before.before.args.bytes.now in
-    turned_back Refused (planing_of (panel_of b)) (ap (λ (x : Reading). x.refusal) r.read.ensures ∙ read_refusal b) c.if1.true
+returns-then-reading-ne0 c =
+    let r = c in
+    let b = r.args.bytes.now in
+    turned_back Refused (planing_of (panel_of b)) (ap (λ (x : Reading). x.refusal) r.read-reading.ensures ∙ read_refusal b) c.if-reading-ne0.true
 
-returns-2 : tie.Need-returns-2
+pub returns : goal.returns
 unfolding record_planing planing_answer
-returns-2 c =
-    let r = c.before.before.before.before in
-    let b = r.before.before.args.bytes.now in
-    let h = none_read b r.read.result r.read.ensures c.before.before.if1.false in
+returns c =
+    let r = c in
+    let b = r.args.bytes.now in
+    let h = none_read b r.read-reading.result r.read-reading.ensures c.if-reading-ne0.false in
     c.planing.ensures
     ∙ ap planing_answer h.1
     ∙ sym (answered _ Refused (planing_of (panel_of b)) (record_panel b h.0))
     ∙ answered _ Refused (planing_of (panel_of b)) h.0
-
-pub planing-of-spec : {M : Type 1} → statement M
-planing-of-spec = tie.close (tie.spec (λ c κs. search rules) returns (λ c κs. search rules) returns-2)
