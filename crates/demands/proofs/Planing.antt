@@ -1,5 +1,5 @@
 -- The number that the function for C answers says what document 02, 7/14, asks for. Assumes nothing.
-use Prim.Native.Nat.{ℕ, suc, ◌+◌, ◌*◌, ◌/◌, ◌%◌, ◌<◌}
+use Prim.Native.Nat.{ℕ, zero, suc, ◌+◌, ◌*◌, ◌/◌, ◌%◌, ◌<◌}
 use mathlib.Core.Path.{◌≡◌, sym, ap, subst}
 use mathlib.Core.List.{List}
 use native.Mathlib.Omega.{arith}
@@ -10,7 +10,6 @@ use Rattle.record.specs.Layouts.{panel_of}
 use Rattle.record.proofs.Sound.{record_panel}
 use Rattle.planing.specs.declared.PlaningAnswer.{PlaningAnswer}
 use Rattle.planing.specs.declared.PlaningAnswer.TheVariants.{PlaceAndTenths, NoCut, Refused}
-use Rattle.planing.specs.Cuts.{Cut}
 use Rattle.planing.specs.LeastCut.{IsLeastCut, IsPlaning}
 use Rattle.planing.specs.Answers.{planing_of}
 use Rattle.planing.proofs.CutPanels.{allowed_within}
@@ -29,11 +28,13 @@ read_off p place tenths e h =
   where
     says : (n : ℕ) → 0 < n → n / 1000 ≡ place → n % 1000 ≡ tenths → SaysOf p n
     says (suc n) some thousands rest = subst (IsLeastCut p) (λ i. record { place = sym thousands i; tenths = sym rest i }) h
+    says zero some thousands rest = elim some [ ]
 
 of_answer : (b : List ℕ) (a : PlaningAnswer) → record_planing b ≡ a → panel_refusal (panel_of b) ≡ 0 → IsPlaning (panel_of b) a → PlaningOf b
 of_answer b (PlaceAndTenths place tenths) same e h =
     record { number = 1000 * place + tenths; answered = ap exported_cut same; says = read_off (panel_of b) place tenths e h }
 of_answer b NoCut same e h = record { number = 0; answered = ap exported_cut same; says = h }
+of_answer b (Refused _) same e h = elim h [ ]
 
 pub planing_of_c : PlaningOfC
 unfolding record_planing
