@@ -1,6 +1,6 @@
 """run.py [REPOSITORY] [--panels N] [--seed S] [--cc COMPILER]
 
-What a card costs, in instructions counted by callgrind: the proved library (target/staticlib/libcard_c.a, by `rt staticlib card_c`) beside
+What a card costs, in instructions counted by callgrind: the proved library (target/staticlib/libcard_c.a, by tools/staticlib.sh) beside
 bench/card.c, the same steps in plain C at -O3. Both print the same cards for N random panels first, of version 1, with the fire on the
 last face of the same panels turned, and with a fire on each face. Of an input the cost is what two more passes over it take beyond one, so
 that start-up does not count. Then what the least cut costs (yurbantse_planing), of N/5 of the panels of each kind and of panels that take
@@ -105,7 +105,7 @@ def main():
     words.add_argument("--cc", default="cc")
     given = words.parse_args()
     archive = os.path.join(given.repository, "target/staticlib/libcard_c.a")
-    needs.made(archive, "rt staticlib card_c")
+    needs.made(archive, "bash tools/staticlib.sh")
     needs.installed(given.cc, "valgrind")
     folder = os.path.join(given.repository, "target/bench")
     os.makedirs(folder, exist_ok=True)

@@ -1,10 +1,9 @@
 """compare.py REPOSITORY [--records N] [--seed S] [--bin] [WORD..]
 
 Runs the test programs on random records and compares what they print with peer.py. WORD is a call of theirs, as `read`, or `test_panels`;
-none: all of them. Nothing has to be proved: a program is run by `rt try`, on the interpreter and compiled three ways, in a scratch copy of
-the repository. --bin: runs the proved program, as target/bin/test_records, instead. The input goes in pieces: a program reads 64 KiB at
-most, and the interpreter stops after ten million steps. test_panels reads no input: its `main` is written anew, with random panels, unused
-places full (not with --bin).
+none: all of them. Nothing has to be proved: `rt try` builds a program with checks, once for all of its input, which goes in pieces, as a
+program reads 64 KiB at most. --bin: runs the proved programs, crates/NAME/out/NAME, instead. test_panels reads no input: its `main` is
+written anew in a scratch copy, with random panels, unused places full (not with --bin).
 Ends with status 1 at a disagreement, and prints its line; and where something is missing, and says what.
 """
 import os
@@ -22,11 +21,11 @@ import programs
 import random_records
 
 ROOM = 65_000  # bytes of one input
-GROUP = 300    # cases of one input
-FEW = 4        # cases of one input where each is many steps: a depth table, a section carried, a load minute, its seconds
+GROUP = 300    # cases of one input, or of one `main` of test_panels
+FEW = 10       # cases of one input of `planing`, each of which is many steps
 BUILT = 5      # lines that a case of test_panels prints
-MANY_STEPS = ("table", "carried", "card", "load", "seconds", "reserve", "loadgrade", "reigrade")
 CUTS = 10      # one case of `planing` for so many of the others: peer.py tries every cut
+MAIN = "fn main(rt: HostRuntime) -> io::Result<()> {\n"
 
 
 def random_space(rng, record):
@@ -173,7 +172,7 @@ def cases(call, seed, count):
 def pieces(call, all_cases):
     """The cases in groups whose input fits one run."""
     group, size = [], 0
-    most = 1 if call == "planing" else FEW if call in MANY_STEPS else GROUP
+    most = FEW if call == "planing" else GROUP
     for case in all_cases:
         length = len(programs.asked(call, case))
         if size + length > ROOM or len(group) == most:
@@ -198,7 +197,7 @@ def built_case(rng, number):
     depth, minute = rng.randint(0, peer.thickness_of(panel.lamellae)), rng.randint(0, 360)
     boards = [f"board({b.kind}, {b.thickness}, {b.joint})" for b in panel.boards]
     cladding = ["Unclad", "One", "Two"][len(boards)] + (f"({', '.join(boards)})" if boards else "")
-    code = f"""fn case_{number}() {{
+    code = f"""fn case_{number}(rt: &impl Print) -> io::Result<()> {{
     let mut p = panel(Cladding::{cladding}, {panel.failure_time}, {count}, {[d for d, _ in places[:9]]}, {[t for _, t in places[:9]]});
     p.version = {panel.version};
     p.face = {panel.face};
@@ -207,36 +206,17 @@ def built_case(rng, number):
     p.gap = {panel.gap};
     p.strength = {panel.strength};
     p.moment = {panel.moment};
-    print_panel(p, b"case {number}");
-    print_record(p, b"case {number}");
-    print_sum(p, b"case {number}");
-    print_section(p, {depth}, b"case {number}");
-    print_char(p, {minute}, b"case {number}");
+    print_panel(rt, p, b"case {number}")?;
+    print_record(rt, p, b"case {number}")?;
+    print_sum(rt, p, b"case {number}")?;
+    print_section(rt, p, {depth}, b"case {number}")?;
+    print_char(rt, p, {minute}, b"case {number}")
 }}
+
 """
     lines = [line(panel, f"case {number}") for line in (make_cases.refusals_line, make_cases.space_line, make_cases.sum_line)]
     lines += [make_cases.section_line(panel, depth, f"case {number}"), make_cases.char_line(panel, minute, f"case {number}")]
     return code, "".join(lines)
-
-
-def compare_built(scratch, seed, count):
-    rng = random.Random(f"test_panels {seed}")
-    source = os.path.join(scratch, "crates/test_panels/src/main.rt")
-    with open(source) as file:
-        support = file.read().split("fn main() {")[0]
-    for start in range(0, count, GROUP):
-        numbers = range(start, min(count, start + GROUP))
-        built = [built_case(rng, number) for number in numbers]
-        calls = "".join(f"    case_{number}();\n" for number in numbers)
-        with open(source, "w") as file:
-            file.write(support + "".join(code for code, _ in built) + f"fn main() {{\n{calls}}}\n")
-        wrong = run_try(scratch, "test_panels", "", "".join(lines for _, lines in built))
-        if wrong:
-            code, lines = built[wrong[0] // BUILT]
-            print(f"test_panels disagrees at\n{code}{lines}{wrong[1][:3000]}")
-            return False
-        print(f"test_panels: {numbers[-1] + 1} agree", flush=True)
-    return True
 
 
 def first_difference(said, expected):
@@ -247,27 +227,76 @@ def first_difference(said, expected):
     return next((i for i in range(min(len(a), len(b))) if a[i] != b[i]), min(len(a), len(b)))
 
 
-def bin_of(repository, name):
-    return os.path.join(repository, "target/bin", name)
+def crate_of(repository, program):
+    return os.path.join(repository, "crates", program)
 
 
-def run_bin(repository, name, given, expected):
-    said = subprocess.run([bin_of(repository, name)], input=given, capture_output=True, text=True, errors="replace").stdout
-    at = first_difference(said, expected)
-    return None if at is None else (at, (said.split("\n") + [""])[at])
+def bin_of(repository, program):
+    return os.path.join(crate_of(repository, program), "out", program)
 
 
-def run_try(scratch, name, given, expected):
-    folder = os.path.join(scratch, "crates", name)
-    for file, text in (("stdin", given), ("stdout", expected)):
-        with open(os.path.join(folder, file), "w") as out:
-            out.write(text)
-    run = subprocess.run(["rt", "try", name], cwd=scratch, capture_output=True, text=True, env=dict(os.environ, RT_CUT="0"))
+def compare_built(repository, seed, count):
+    rng = random.Random(f"test_panels {seed}")
+    with tempfile.TemporaryDirectory() as scratch:
+        shutil.copy(os.path.join(repository, "crates.txt"), scratch)
+        shutil.copytree(os.path.join(repository, "crates"), os.path.join(scratch, "crates"), ignore=shutil.ignore_patterns("out"))
+        source = os.path.join(crate_of(scratch, "test_panels"), "src/main.rt")
+        with open(source) as file:
+            support, found, _ = file.read().partition(MAIN)
+        if not found:
+            sys.exit(f"no line `{MAIN.rstrip()}` in {source}")
+        for start in range(0, count, GROUP):
+            numbers = range(start, min(count, start + GROUP))
+            built = [built_case(rng, number) for number in numbers]
+            calls = "".join(f"    case_{number}(rt)?;\n" for number in numbers)
+            with open(source, "w") as file:
+                file.write(f"{support}{''.join(code for code, _ in built)}{MAIN}    let rt = &rt;\n{calls}    Ok(())\n}}\n")
+            run = subprocess.run(["rt", "try"], cwd=os.path.dirname(os.path.dirname(source)), stdin=subprocess.DEVNULL, capture_output=True,
+                                 text=True, errors="replace")
+            at = first_difference(run.stdout, "".join(lines for _, lines in built))
+            if at is not None or run.returncode:
+                code, lines = built[min((at or 0) // BUILT, len(built) - 1)]
+                said = (run.stdout.split("\n") + [""])[at or 0]
+                print(f"test_panels disagrees at\n{code}{lines}  program: {said}\n{run.stderr[-3000:]}")
+                return False
+            print(f"test_panels: {numbers[-1] + 1} agree", flush=True)
+    return True
+
+
+def run_bin(repository, program, asked):
+    """Of the inputs the number of the first that the proved program answers otherwise, the line, and what it says there; or None."""
+    for number, (given, expected) in enumerate(asked):
+        run = subprocess.run([bin_of(repository, program)], input=given, capture_output=True, text=True, errors="replace")
+        at = first_difference(run.stdout, expected)
+        if at is not None or run.returncode:
+            return number, at or 0, (run.stdout.split("\n") + [""])[at or 0] + run.stderr
+    return None
+
+
+def run_try(repository, program, asked):
+    """The same of the program as `rt try` runs it, which is built once for all inputs."""
+    with tempfile.TemporaryDirectory() as folder:
+        for number, (given, expected) in enumerate(asked):
+            for name, text in ((f"{number:05}", given), (f"{number:05}.stdout", expected)):
+                with open(os.path.join(folder, name), "w") as file:
+                    file.write(text)
+        run = subprocess.run(["rt", "try", "--cases", folder], cwd=crate_of(repository, program), stdin=subprocess.DEVNULL,
+                             capture_output=True, text=True, errors="replace")
     if run.returncode == 0:
         return None
-    said = run.stdout + run.stderr
+    said = []
+    for line in (run.stdout + run.stderr).split("\n"):
+        said.append(line)
+        if line.startswith("case="):
+            if " run=ended status=0 " not in line or " output=expected " not in line:
+                break
+            said = []
+    else:
+        sys.exit("\n".join(said))
+    said = "\n".join(said)
+    number = int(re.search(r"case=(\d+)", said).group(1))
     at = re.search(r"at byte (\d+)", said)
-    return (expected.encode()[:int(at.group(1))].count(b"\n") if at else 0), said
+    return number, asked[number][1].encode()[:int(at.group(1))].count(b"\n") if at else 0, said
 
 
 def case_at(call, group, line):
@@ -279,19 +308,19 @@ def case_at(call, group, line):
     return case
 
 
-def compare(run, place, call, seed, count):
-    drawn, done, program = list(cases(call, seed, count)), 0, programs.program_of(call)
-    for group in pieces(call, drawn):
-        given, expected = programs.lines(call, group)
-        wrong = run(place, program, given, expected)
-        if wrong:
-            at, said = wrong
-            case = case_at(call, group, at)
-            print(f"{program} disagrees at\n  {programs.asked(call, case)}  peer:    {expected.split(chr(10))[at]}\n  program: {said[:3000]}")
-            return False
-        done += len(group)
-        if done % GROUP < len(group) or done == len(drawn):
-            print(f"{call}: {done} agree", flush=True)
+def compare(run, repository, program, calls, seed, count):
+    drawn = {call: list(cases(call, seed, count)) for call in calls}
+    groups = [(call, group) for call in calls for group in pieces(call, drawn[call])]
+    asked = [programs.lines(call, group) for call, group in groups]
+    wrong = run(repository, program, asked)
+    if wrong:
+        number, at, said = wrong
+        call, group = groups[number]
+        line = (asked[number][1].split("\n") + [""])[at]
+        print(f"{program} disagrees at\n  {programs.asked(call, case_at(call, group, at))}  peer:    {line}\n  program: {said[-3000:]}")
+        return False
+    for call in calls:
+        print(f"{call}: {len(drawn[call])} agree", flush=True)
     return True
 
 
@@ -311,17 +340,19 @@ def arguments():
 
 def main():
     given, names = arguments()
+    words = [name for name in names if name != "test_panels"]
+    by_program = {program: [word for word in words if programs.program_of(word) == program]
+                  for program in dict.fromkeys(map(programs.program_of, words))}
     if given.bin:
-        for program in dict.fromkeys(map(programs.program_of, names)):
-            needs.made(bin_of(given.repository, program), f"rt check {' '.join(programs.PROGRAMS)}")
-        sys.exit(not all([compare(run_bin, given.repository, name, given.seed, given.records) for name in names]))
-    needs.installed("rt")
-    with tempfile.TemporaryDirectory() as scratch:
-        shutil.copy(os.path.join(given.repository, "crates.txt"), scratch)
-        shutil.copytree(os.path.join(given.repository, "crates"), os.path.join(scratch, "crates"))
-        agree = [compare_built(scratch, given.seed, given.records) if name == "test_panels" else
-                 compare(run_try, scratch, name, given.seed, given.records) for name in names]
-        sys.exit(not all(agree))
+        for program in by_program:
+            needs.made(bin_of(given.repository, program), f"cd {crate_of(given.repository, program)}; rt run < stdin")
+    else:
+        needs.installed("rt")
+    agree = [compare(run_bin if given.bin else run_try, given.repository, program, calls, given.seed, given.records)
+             for program, calls in by_program.items()]
+    if "test_panels" in names:
+        agree.append(compare_built(given.repository, given.seed, given.records))
+    sys.exit(not all(agree))
 
 
 if __name__ == "__main__":

@@ -1,6 +1,6 @@
 """compare_cards.py REPOSITORY [--records N] [--seed S] [--jobs J] [--cuts C]
 
-Calls the proved functions as C does (target/staticlib/libcard_c.a, by `rt staticlib card_c`, made a shared object by cc) on N records and
+Calls the proved functions as C does (target/staticlib/libcard_c.a, by tools/staticlib.sh, made a shared object by cc) on N records and
 compares with peer.py: the card, the number answered, and every byte of the lent space. The records, of both versions and every face, are
 in turn within the limits, failing at any minute, at once or after a recovery, at a limit, damaged, and with one byte changed, each place
 of the record in its turn; the first are all lengths from none to 128 bytes. The space is the longest card's, the very card's, or one byte
@@ -121,7 +121,7 @@ def main():
     words.add_argument("--cuts", type=needs.count, default=100)
     given = words.parse_args()
     archive = os.path.join(given.repository, "target/staticlib/libcard_c.a")
-    needs.made(archive, "rt staticlib card_c")
+    needs.made(archive, "bash tools/staticlib.sh")
     needs.installed("cc")
     folder = os.path.join(given.repository, "target/c")
     os.makedirs(folder, exist_ok=True)

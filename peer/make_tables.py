@@ -1,22 +1,24 @@
 """make_tables.py REPOSITORY: writes the entries of each table of basic times, crates/basic_times/src/TABLE.rt, between the brackets of its
-`const TABLE`.
+`const TABLE`, in the layout of `rt fmt`: as many to a line as fit into 99 columns.
 
 They follow from the rules in peer.py by whole numbers alone. A new table is one line of peer.TABLES, and its file.
 """
 import os
 import re
 import sys
+import textwrap
 
 import needs
 import peer
 
+INDENT = "    "
 BRACKETS = re.compile(r"(const TABLE: \[u32; \d+\] = \[)[^]]*(\];)")
 
 
 def write_table(path, entries):
     with open(path) as file:
         code = file.read()
-    listed = "".join(f"    {entry},\n" for entry in entries)
+    listed = textwrap.fill(", ".join(map(str, entries)) + ",", width=99, initial_indent=INDENT, subsequent_indent=INDENT) + "\n"
     code, found = BRACKETS.subn(rf"\1\n{listed}\2", code)
     if not found:
         sys.exit(f"no `const TABLE: [u32; ..] = [..];` in {path}")
