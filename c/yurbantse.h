@@ -1,4 +1,5 @@
-/* The fire card for programs in C: the functions of the proved crate card_c (target/staticlib/libcard_c.a, x86-64 Linux).
+/* The fire card for programs in C: the functions of the proved crate card_c, as card_c_c exports them (target/staticlib/libcard_c.a, by
+   tools/staticlib.sh; Linux on x86-64 of level v2 and up).
 
    A record is that of docs/SPECIFICATION.md, part 2: big-endian, 21 to 53 bytes in version 1, 22 to 54 in version 2, which has a byte for
    the face that the fire is on after the version: 0 the first, 1 the last, 2 each alone. Version 1 means the first. Lengths in a record
@@ -52,8 +53,8 @@ int32_t yurbantse_refusal(uint8_t n, uint8_t *out, size_t out_length);
      0 where no cut of any lamella lowers the grade;
      minus the number of the refusal, as above but never -14.
 
-   It tries every cut from the least on. Of random panels half took under 1.5 million instructions; the most that was counted, for nine thick
-   lamellae with a fire on each face, is 80 million (docs/SPEED.md). */
+   It tries every cut from the least on. Of random panels half took under 0.8 million instructions; the most that was counted, for nine thick
+   lamellae with a fire on each face, is 64 million (docs/SPEED.md). */
 int32_t yurbantse_planing(const uint8_t *bytes, size_t bytes_length);
 
 #ifdef __cplusplus
