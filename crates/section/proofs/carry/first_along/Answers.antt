@@ -5,15 +5,12 @@ use Rattle.section.proofs.carry.first_along.Goals as goal
 
 pub returns-then-directions-i-eq1 : goal.returns-then-directions-i-eq1
 returns-then-directions-i-eq1 c =
-    let l = c in
-    sought_found _ _ _ _ _ l.loop-i.i l.loop-i.at l.loop-i.invariant (omega arith) c.if-directions-i-eq1.true
+    sought_found _ _ _ _ _ c.loop-i.i c.loop-i.at c.loop-i.invariant (omega arith) c.if-directions-i-eq1.true
 
 pub loop-i-preserved : goal.loop-i-preserved
 loop-i-preserved c =
-    let l = c in
-    rw c.widen-at.ensures.0 (sought_more _ _ _ _ _ l.loop-i.i l.loop-i.at l.loop-i.invariant (omega arith) c.if-directions-i-eq1.false)
+    rw c.widen-at.ensures.0 (sought_more _ _ _ _ _ c.loop-i.i c.loop-i.at c.loop-i.invariant (omega arith) c.if-directions-i-eq1.false)
 
 pub returns : goal.returns
 returns c =
-    let l = c in
-    sought_none _ _ _ _ _ l.loop-i.i l.loop-i.at l.loop-i.invariant (omega arith)
+    sought_none _ _ _ _ _ c.loop-i.i c.loop-i.at c.loop-i.invariant (omega arith)
