@@ -1,4 +1,4 @@
--- `charring::fires::passed_end` meets its contract. The loop's invariant: what will come out is unchanged. The measure is the
+-- `charring::fires::passed_end` meets its contract. The loop's invariant: what will come out is unchanged.
 use Prim.Native.Nat.{◌+◌, ◌<◌}
 use Rattle.charring.proofs.PassedLines.{end_start, end_passed, end_ahead, end_found}
 use Rattle.charring.proofs.Ways.{line_within}

@@ -1,4 +1,4 @@
--- `charring::phases::phase_on` meets its contract. The loop's invariant: what will come out is unchanged. The measure is the
+-- `charring::phases::phase_on` meets its contract. The loop's invariant: what will come out is unchanged.
 use Prim.Native.Nat.{◌+◌, ◌<◌}
 use Rattle.charring.proofs.Onward.{onward_start, onward_stop, onward_more, onward_skip, onward_last}
 use Rattle.charring.proofs.Ways.{line_within}

@@ -1,4 +1,4 @@
--- `charring::walk::walk` meets its contract. The loop's invariant: what will come out is unchanged. The measure is the lines
+-- `charring::walk::walk` meets its contract. The loop's invariant: what will come out is unchanged.
 use Prim.Native.Nat.{◌+◌, ◌<◌}
 use Rattle.charring.proofs.Ways.{line_within, walk_start, walk_more, walk_end}
 use mathlib.Core.Path.{◌≡◌}

@@ -1,4 +1,4 @@
--- `load::scan::last_passing` meets its contract: every depth to the present one passes, and the first that does not decides. Assumes
+-- `load::scan::last_passing` meets its contract: every depth to the present one passes, and the first that does not decides.
 use Prim.Native.Nat.{ℕ, ◌+◌, ◌<◌}
 use Rattle.load.proofs.LastPassing.{last_found}
 use Rattle.load.specs.Failure.{EveryTenthPasses}

@@ -1,4 +1,4 @@
--- `section::carry::first_along` meets its contract. The invariant: what is sought is the same from lamella i on. The measure is the
+-- `section::carry::first_along` meets its contract. The invariant: what is sought is the same from lamella i on.
 use native.Mathlib.Omega.{arith}
 use Rattle.section.proofs.FirstAlong.{sought_more, sought_found, sought_none}
 use Rattle.section.proofs.carry.first_along.Goals as goal

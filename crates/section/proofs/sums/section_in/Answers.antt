@@ -1,4 +1,4 @@
--- `section::sums::section_in` meets its contract. The loop's invariant: s and top are the sums of the first i lamellae and where
+-- `section::sums::section_in` meets its contract: s and top are the sums of the first i lamellae and where these end.
 use native.Mathlib.Omega.{arith}
 use borrow.Author.Rules.{rules}
 use Rattle.section.proofs.Growing.{summed_start, summed_more, summed_fits}
