@@ -26,28 +26,28 @@ char_at_failure p n q time =
     char_until_failure p n q (omega arith) ∙ ap (λ (a : ℕ). min a (2 * q * back_face p)) (under_full p n q (omega arith))
 
 module _ (p : Panel) (accepted : panel_refusal p ≡ 0) where
-  abbrev pub deepAtFailure : ℕ
-  deepAtFailure = char_at p (failure_of p) 1000
+  abbrev pub deep_at_failure : ℕ
+  deep_at_failure = char_at p (failure_of p) 1000
 
   -- a line is passed exactly when it is short of that
-  pub passed_short : (l : ℕ) → 2000 * l < deepAtFailure → l < depth_at_failure p
-  passed_short l h = numbers (depth_at_failure p) (back_face p) l deepAtFailure (char_at_failure p (failure_of p) 1000 refl) h
+  pub passed_short : (l : ℕ) → 2000 * l < deep_at_failure → l < depth_at_failure p
+  passed_short l h = numbers (depth_at_failure p) (back_face p) l deep_at_failure (char_at_failure p (failure_of p) 1000 refl) h
     where
       numbers : (d b l c : ℕ) → c ≡ min (2 * 1000 * d) (2 * 1000 * b) → 2000 * l < c → l < d
       numbers d b l c e h = omega arith
 
-  pub ahead_deep : (l : ℕ) → Memᴰ l (bond_lines p) → deepAtFailure ≤ 2000 * l → depth_at_failure p ≤ l
+  pub ahead_deep : (l : ℕ) → Memᴰ l (bond_lines p) → deep_at_failure ≤ 2000 * l → depth_at_failure p ≤ l
   ahead_deep l m h =
-      numbers (depth_at_failure p) (back_face p) l deepAtFailure (char_at_failure p (failure_of p) 1000 refl) h
+      numbers (depth_at_failure p) (back_face p) l deep_at_failure (char_at_failure p (failure_of p) 1000 refl) h
       (deeper_short (lines_deeper p accepted) l m)
     where
       numbers : (d b l c : ℕ) → c ≡ min (2 * 1000 * d) (2 * 1000 * b) → c ≤ 2000 * l → l < b → d ≤ l
       numbers d b l c e h k = omega arith
 
-  pub intact_end_lem : NonePassed deepAtFailure (bond_lines p) → first_end p ≡ intact_end p
+  pub intact_end_lem : NonePassed deep_at_failure (bond_lines p) → first_end p ≡ intact_end p
   intact_end_lem none = none_passed p (λ l m. ahead_deep l m (none l m))
 
-  pub deepest_end : (l : ℕ) (below : List ℕ) → DeepestPassed deepAtFailure (bond_lines p) l below → first_end p ≡ line_end l below
+  pub deepest_end : (l : ℕ) (below : List ℕ) → DeepestPassed deep_at_failure (bond_lines p) l below → first_end p ≡ line_end l below
   unfolding first_end
   deepest_end l below d =
       ap (passed_end (depth_at_failure p) (intact_end p)) d.split
@@ -63,7 +63,7 @@ module _ (p : Panel) (accepted : panel_refusal p ≡ 0) where
         unclad = λ c. is ∙ rw c;
       }
 
-  pub first_end_lem : IsFirstEnd p deepAtFailure (first_end p)
+  pub first_end_lem : IsFirstEnd p deep_at_failure (first_end p)
   first_end_lem = record { intact = λ none. intact_rule (first_end p) (intact_end_lem none); deepest = deepest_end }
 
 -- The rule fixes the end

@@ -30,24 +30,24 @@ module _ (p : Panel) where
   abbrev q : Panel
   q = shown p
 
-  abbrev loadText : List ℕ
-  loadText = text_line load_head (printed_load p ∷ (grade_of (printed_load p)).minutes ∷ [])
+  abbrev load_text : List ℕ
+  load_text = text_line load_head (printed_load p ∷ (grade_of (printed_load p)).minutes ∷ [])
 
   abbrev time_text : List ℕ
   time_text = time_line time_head (minutes_in (printed_load_seconds p)) (seconds_over (printed_load_seconds p))
 
-  abbrev layerText : List ℕ
-  layerText = text_line ei_head (printed_ei p ∷ (grade_of (printed_ei p)).minutes ∷ [])
+  abbrev layer_text : List ℕ
+  layer_text = text_line ei_head (printed_ei p ∷ (grade_of (printed_ei p)).minutes ∷ [])
 
-  abbrev bothText : List ℕ
-  bothText = text_line rei_head ((rei_of (printed_load p) (printed_ei p)).minutes ∷ [])
+  abbrev both_text : List ℕ
+  both_text = text_line rei_head ((rei_of (printed_load p) (printed_ei p)).minutes ∷ [])
 
   -- the card from its line R on
-  abbrev fromLoad : List ℕ
-  fromLoad = loadText ++ (time_text ++ (layerText ++ bothText))
+  abbrev from_load : List ℕ
+  from_load = load_text ++ (time_text ++ (layer_text ++ both_text))
 
   abbrev from120 : List ℕ
-  from120 = char_line q 120 ++ fromLoad
+  from120 = char_line q 120 ++ from_load
 
   abbrev from90 : List ℕ
   from90 = char_line q 90 ++ from120
@@ -56,36 +56,36 @@ module _ (p : Panel) where
   from60 = char_line q 60 ++ from90
 
   -- which comes after five line feeds
-  to_load : after 10 (after 10 (after 10 (after 10 (after 10 (text_of_card p))))) ≡ fromLoad
+  to_load : after 10 (after 10 (after 10 (after 10 (after 10 (text_of_card p))))) ≡ from_load
   unfolding text_of_card
   to_load =
       ap (λ (t : List ℕ). after 10 (after 10 (after 10 (after 10 (after 10 t)))))
-      (in_a_row (text_line card_head (p.version ∷ [])) (char_line q 30) (char_line q 60) (char_line q 90) (char_line q 120) loadText time_text layerText bothText)
+      (in_a_row (text_line card_head (p.version ∷ [])) (char_line q 30) (char_line q 60) (char_line q 90) (char_line q 120) load_text time_text layer_text both_text)
       ∙ ap (λ (t : List ℕ). after 10 (after 10 (after 10 (after 10 t)))) (after_line card_head (p.version ∷ []) (char_line q 30 ++ from60) refl)
       ∙ ap (λ (t : List ℕ). after 10 (after 10 (after 10 t))) (after_char q 30 from60)
       ∙ ap (λ (t : List ℕ). after 10 (after 10 t)) (after_char q 60 from90)
       ∙ ap (after 10) (after_char q 90 from120)
-      ∙ after_char q 120 fromLoad
+      ∙ after_char q 120 from_load
 
   -- and from its line RS on
-  to_time : after 10 (after 10 (after 10 (after 10 (after 10 (after 10 (text_of_card p)))))) ≡ time_text ++ (layerText ++ bothText)
+  to_time : after 10 (after 10 (after 10 (after 10 (after 10 (after 10 (text_of_card p)))))) ≡ time_text ++ (layer_text ++ both_text)
   to_time =
       ap (after 10) to_load
-      ∙ after_line load_head (printed_load p ∷ (grade_of (printed_load p)).minutes ∷ []) (time_text ++ (layerText ++ bothText)) refl
+      ∙ after_line load_head (printed_load p ∷ (grade_of (printed_load p)).minutes ∷ []) (time_text ++ (layer_text ++ both_text)) refl
 
   pub minute_read : printed_minute (text_of_card p) ≡ printed_load p
   minute_read =
       ap first_number to_load
-      ∙ first_number_lem load_head (printed_load p) ((grade_of (printed_load p)).minutes ∷ []) (time_text ++ (layerText ++ bothText)) refl
+      ∙ first_number_lem load_head (printed_load p) ((grade_of (printed_load p)).minutes ∷ []) (time_text ++ (layer_text ++ both_text)) refl
       (omega (arith, printed_most p))
 
   pub minutes_read : minutes_on_card (text_of_card p) ≡ minutes_in (printed_load_seconds p)
   minutes_read =
       ap first_number to_time
-      ∙ time_minutes time_head (minutes_in (printed_load_seconds p)) (seconds_over (printed_load_seconds p)) (layerText ++ bothText) refl
+      ∙ time_minutes time_head (minutes_in (printed_load_seconds p)) (seconds_over (printed_load_seconds p)) (layer_text ++ both_text) refl
       (omega (arith, printed_seconds_most p))
 
   pub seconds_read : seconds_on_card (text_of_card p) ≡ seconds_over (printed_load_seconds p)
   seconds_read =
       ap number_after_colon to_time
-      ∙ time_seconds time_head (minutes_in (printed_load_seconds p)) (seconds_over (printed_load_seconds p)) (layerText ++ bothText) (omega arith) refl
+      ∙ time_seconds time_head (minutes_in (printed_load_seconds p)) (seconds_over (printed_load_seconds p)) (layer_text ++ both_text) (omega arith) refl

@@ -1,6 +1,23 @@
-// The lines of the input, their words, and what a word spells.
+// The input, its lines, their words, and what a word spells.
 ghost use Rattle.std.specs.Prelude.{◌≡◌, ◌*◌, ◌≤◌, ◌<◌, length};
 ghost use Rattle.test_lines.specs.Counts.{IsPrefixLen};
+
+use std::io::Read;
+
+// What of the input fits into the space; a read that fails ends the input.
+pub fn read_full(input: &mut impl Read, space: &mut [u8]) -> usize
+    ensures { IsPrefixLen result space.new }
+{
+    let mut n = 0;
+    while n < space.len() {
+        let more = input.read(&mut space[n..]).unwrap_or(0);
+        if more == 0 {
+            break;
+        }
+        n += more;
+    }
+    n
+}
 
 // The place of the first mark from `at` on, or the text's length where there is none.
 // No open call: `at` must be a place of the text, or its end.

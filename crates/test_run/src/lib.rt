@@ -18,12 +18,8 @@ mod times;
 mod writes;
 
 use std::io;
-use std::io::Read;
-use test_lines::input::{after_word, is_word, line_at, next_line};
+use test_lines::input::{after_word, is_word, line_at, next_line, read_full};
 use test_lines::output;
-
-// How many bytes of the input are read.
-const INPUT_MOST: u64 = 65536;
 
 // The words stand in short chains, each of which hands the words that it does not know to the next: one long chain takes the prover
 // twice as long.
@@ -125,8 +121,8 @@ fn answer_all(rt: &impl Print, text: &[u8]) -> io::Result<()> {
     Ok(())
 }
 
-pub fn run<R: Input + Print + AllocGlobal>(rt: &R) -> io::Result<()> {
-    let mut input = Vec::new(rt.alloc());
-    rt.reader().take(INPUT_MOST).read_to_end(&mut input)?;
-    answer_all(rt, &input)
+pub fn run(rt: &(impl Input + Print)) -> io::Result<()> {
+    let mut input = [0u8; 65536];
+    let n = read_full(&mut rt.reader(), &mut input);
+    answer_all(rt, &input[..n])
 }

@@ -13,16 +13,14 @@ use Rattle.card_c.proofs.planing_of.Goals as goal
 pub returns-then-reading-ne0 : goal.returns-then-reading-ne0
 unfolding record_planing
 returns-then-reading-ne0 c =
-    let r = c in
-    let b = r.args.bytes.now in
-    turned_back Refused (planing_of (panel_of b)) (ap (λ (x : Reading). x.refusal) r.read-reading.ensures ∙ read_refusal b) c.if-reading-ne0.true
+    let b = c.args.bytes.now in
+    turned_back Refused (planing_of (panel_of b)) (ap (λ (x : Reading). x.refusal) c.read-reading.ensures ∙ read_refusal b) c.if-reading-ne0.true
 
 pub returns : goal.returns
 unfolding record_planing planing_answer
 returns c =
-    let r = c in
-    let b = r.args.bytes.now in
-    let h = none_read b r.read-reading.result r.read-reading.ensures c.if-reading-ne0.false in
+    let b = c.args.bytes.now in
+    let h = none_read b c.read-reading.result c.read-reading.ensures c.if-reading-ne0.false in
     c.planing.ensures
     ∙ ap planing_answer h.1
     ∙ sym (answered _ Refused (planing_of (panel_of b)) (record_panel b h.0))

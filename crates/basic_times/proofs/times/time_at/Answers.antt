@@ -7,12 +7,10 @@ use Rattle.basic_times.proofs.times.time_at.Goals as goal
 
 pub returns-in-Protection : goal.returns-in-Protection
 returns-in-Protection c =
-    let start = c in
-    let a = start.args in
-    time_read a.role Protection a.m a.h _ (search rules) start.requires (omega arith) c.protection.ensures
+    let a = c.args in
+    time_read a.role Protection a.m a.h _ (search rules) c.requires (omega arith) c.protection.ensures
 
 pub returns-in-Insulation : goal.returns-in-Insulation
 returns-in-Insulation c =
-    let start = c in
-    let a = start.args in
-    time_read a.role Insulation a.m a.h _ (search rules) start.requires (omega arith) c.insulation.ensures
+    let a = c.args in
+    time_read a.role Insulation a.m a.h _ (search rules) c.requires (omega arith) c.insulation.ensures

@@ -12,15 +12,14 @@ use Rattle.card_text.proofs.text.put_bytes.Goals as goal
 
 pub loop-i-preserved : goal.loop-i-preserved
 loop-i-preserved c =
-    let c2 = c in
-    let at = c2.args.at in
-    let head = c2.args.bytes.now in
-    let i = c2.loop-i.i in
+    let at = c.args.at in
+    let head = c.args.bytes.now in
+    let i = c.loop-i.i in
     let x = get_or head i 0 in
     let more : take (i + 1) head ≡ take i head ++ (x ∷ []) = rw add-one (take-suc head i 0 (omega arith)) in (
       omega arith,
       (
-        length-set c2.loop-i.out (at + i) x ∙ c2.loop-i.invariant.1.0,
-        rw (more, ← add_assoc at i 1) (put_then c2.loop-i.invariant.1.1 (put_byte c2.loop-i.out (at + i) x)),
+        length-set c.loop-i.out (at + i) x ∙ c.loop-i.invariant.1.0,
+        rw (more, ← add_assoc at i 1) (put_then c.loop-i.invariant.1.1 (put_byte c.loop-i.out (at + i) x)),
       ),
     )

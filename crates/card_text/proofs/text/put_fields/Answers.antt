@@ -14,16 +14,14 @@ loop-i-init c = (omega arith, (refl, record { stored = refl; ends = omega arith;
 
 pub loop-i-preserved : goal.loop-i-preserved
 loop-i-preserved c =
-    let c2 = c in
-    let c6 = c2 in
-    let ns = c6.args.numbers.now in
-    let i = c6.loop-i.i in
+    let ns = c.args.numbers.now in
+    let i = c.loop-i.i in
     let h : i < length ns = omega arith in
     let most : 11 * (i + 1) ≡ 11 * i + 11 = omega arith in (
       omega arith,
       (
-        c2.put_field-end.auto.out ∙ c6.loop-i.invariant.1.0,
+        c.put_field-end.auto.out ∙ c.loop-i.invariant.1.0,
         rw (fields_take ns i, most)
-            (put_then c6.loop-i.invariant.1.1 c2.put_field-end.ensures),
+            (put_then c.loop-i.invariant.1.1 c.put_field-end.ensures),
       ),
     )

@@ -5,6 +5,4 @@ use Rattle.card_text.proofs.text.put_line.Goals as goal
 
 pub returns : goal.returns
 returns c =
-    let c2 = c in
-    let c6 = c2 in
-    put_then (put_then c6.put_bytes-first.ensures c2.put_fields-end.ensures) (put_byte c2.put_fields-end.new.out c2.put_fields-end.result 10)
+    put_then (put_then c.put_bytes-first.ensures c.put_fields-end.ensures) (put_byte c.put_fields-end.new.out c.put_fields-end.result 10)

@@ -7,8 +7,5 @@ use Rattle.card_text.proofs.text.put_time.Goals as goal
 
 pub returns : goal.returns
 returns c =
-    let c2 = c in
-    let c7 = c2 in
-    let c11 = c7 in
-    let p = put_then (put_then c11.put_bytes-first.ensures c7.put_field-colon.ensures) c2.put_bytes.ensures in
+    let p = put_then (put_then c.put_bytes-first.ensures c.put_field-colon.ensures) c.put_bytes.ensures in
     rw append_assoc (record { stored = p.stored; ends = p.ends; within = omega arith })

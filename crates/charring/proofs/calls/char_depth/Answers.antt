@@ -14,8 +14,7 @@ returns-then-n-ne0 c = turned_back Refused _ c.minute_refusal-n.ensures c.if-n-n
 
 pub micrometres_in-requires : goal.micrometres_in-requires
 micrometres_in-requires c =
-    let exposed = c in
-    let h = minute_fits _ _ _ exposed.minute_refusal-n.ensures exposed.if-n-ne0.false exposed.shown-exposed.ensures in
+    let h = minute_fits _ _ _ c.minute_refusal-n.ensures c.if-n-ne0.false c.shown-exposed.ensures in
     record {
       fire_fits = h.0;
       fire_of = c.fire_of.ensures;
@@ -25,10 +24,8 @@ micrometres_in-requires c =
 pub returns : goal.returns
 unfolding char_answer
 returns c =
-    let exposed = c in
-    let taken = exposed in
-    let_through Refused taken.minute_refusal-n.ensures taken.if-n-ne0.false
-    (ap Depth (c.micrometres_in.ensures ∙ ap (λ (q : Panel). micrometres_at q taken.args.minute 1) exposed.shown-exposed.ensures))
+    let_through Refused c.minute_refusal-n.ensures c.if-n-ne0.false
+    (ap Depth (c.micrometres_in.ensures ∙ ap (λ (q : Panel). micrometres_at q c.args.minute 1) c.shown-exposed.ensures))
 
 pub shown-exposed-requires : goal.shown-exposed-requires
 shown-exposed-requires c = minute_count _ _ c.minute_refusal-n.ensures c.if-n-ne0.false

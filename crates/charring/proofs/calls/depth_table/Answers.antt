@@ -30,25 +30,18 @@ returns-then-out-lt-ENTRIES c =
 
 pub shown-requires : goal.shown-requires
 shown-requires c =
-    let r = c in
-    (accepted_fits r.args.p (sym r.panel_refusal-n.ensures ∙ c.if-n-ne0.false)).count
+    (accepted_fits c.args.p (sym c.panel_refusal-n.ensures ∙ c.if-n-ne0.false)).count
 
 pub fill-requires : goal.fill-requires
 fill-requires c =
-    let exposed = c in
-    let taken = exposed in
-    let r = taken in record {
-      fire_fits = shown_fits r.args.p exposed.shown.result (sym r.panel_refusal-n.ensures ∙ taken.if-n-ne0.false) exposed.shown.ensures;
-      table_length_in_bounds = exposed.if-out-lt-ENTRIES.false;
+    record {
+      fire_fits = shown_fits c.args.p c.shown.result (sym c.panel_refusal-n.ensures ∙ c.if-n-ne0.false) c.shown.ensures;
+      table_length_in_bounds = c.if-out-lt-ENTRIES.false;
     }
 
 pub returns : goal.returns
 returns c =
-    let f = c in
-    let exposed = f in
-    let i = exposed in
-    let r = i in
-    let a = r.args in
-    let both = table_filled a.p a.out.now f.fill.new.out (sym r.panel_refusal-n.ensures ∙ i.if-n-ne0.false)
-    i.if-out-lt-ENTRIES.false (f.fill.ensures ∙ ap (λ (q : Panel). depth_table q ++ drop 361 a.out.now) exposed.shown.ensures) in
+    let a = c.args in
+    let both = table_filled a.p a.out.now c.fill.new.out (sym c.panel_refusal-n.ensures ∙ c.if-n-ne0.false)
+    c.if-out-lt-ENTRIES.false (c.fill.ensures ∙ ap (λ (q : Panel). depth_table q ++ drop 361 a.out.now) c.shown.ensures) in
     record { value = both.0; out_after = both.1 }

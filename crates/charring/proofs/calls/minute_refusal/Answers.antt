@@ -14,6 +14,5 @@ returns-then-n-ne0 c =
 pub returns : goal.returns
 unfolding minute_refusal panel_refusal
 returns c =
-    let r = c in
-    let a = r.args in
-    open_above (panel_lines a.p) (late a.minute) tt r.panel_refusal-n.ensures c.if-n-ne0.false c.line_or.ensures
+    let a = c.args in
+    open_above (panel_lines a.p) (late a.minute) tt c.panel_refusal-n.ensures c.if-n-ne0.false c.line_or.ensures

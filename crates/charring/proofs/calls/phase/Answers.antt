@@ -15,10 +15,8 @@ returns-then-n-ne0 c = turned_back Refused _ c.minute_refusal-n.ensures c.if-n-n
 pub returns : goal.returns
 unfolding phase_answer
 returns c =
-    let exposed = c in
-    let taken = exposed in
-    let_through Refused taken.minute_refusal-n.ensures taken.if-n-ne0.false
-    (ap At (c.phase_at.ensures ∙ ap (λ (q : Panel). phase_at q taken.args.minute 1) exposed.shown.ensures))
+    let_through Refused c.minute_refusal-n.ensures c.if-n-ne0.false
+    (ap At (c.phase_at.ensures ∙ ap (λ (q : Panel). phase_at q c.args.minute 1) c.shown.ensures))
 
 pub shown-requires : goal.shown-requires
 shown-requires c = minute_count _ _ c.minute_refusal-n.ensures c.if-n-ne0.false

@@ -6,6 +6,5 @@ use Rattle.charring.proofs.depths.micrometres_in.Goals as goal
 
 pub returns : goal.returns
 returns c =
-    let s = c in
     ap (λ (d : ℕ). (d + 1999999) / 2000000)
-    (char_is s.args.p s.args.f s.args.minute 1 c.char_of.result s.requires.fire_of.0 c.char_of.ensures)
+    (char_is c.args.p c.args.f c.args.minute 1 c.char_of.result c.requires.fire_of.0 c.char_of.ensures)

@@ -19,12 +19,10 @@ within q full back d n e h k = omega (arith, back_most q full back h)
 pub returns : goal.returns
 returns c =
     let e = c.effective_of-deep in
-    let h = c in
-    let s = h in
-    let p = s.args.p in
-    let n = s.args.n in
-    let q = s.args.q in
-    let of = s.requires.fire_of.0 in
-    tenths_is p s.args.f n q h.char_of.result e.result c.rounded_up.result of
-    (char_is p s.args.f n q h.char_of.result of h.char_of.ensures) e.ensures
+    let p = c.args.p in
+    let n = c.args.n in
+    let q = c.args.q in
+    let of = c.requires.fire_of.0 in
+    tenths_is p c.args.f n q c.char_of.result e.result c.rounded_up.result of
+    (char_is p c.args.f n q c.char_of.result of c.char_of.ensures) e.ensures
     (c.rounded_up.ensures ∙ ap (λ (d : ℕ). round_up e.result (2 * tenth * d)) c.scaled.ensures.0)

@@ -10,39 +10,30 @@ use Rattle.charring.proofs.fires.fire_of.Goals as goal
 pub returns : goal.returns
 unfolding first_end intact_end
 returns c =
-    let c2 = c in
-    let c3 = c2 in
-    let c5 = c3 in
-    let c7 = c5 in
-    let c8 = c7 in
-    let c9 = c8 in
-    let c10 = c9 in
-    let c11 = c10 in
-    let s = c11 in
-    let p = s.args.p in
-    let slow = c7.slow_rate-slow.ensures.0 ∙ ap₂ (λ (k r : ℕ). k * r) c8.k2_of.ensures c9.rate_of-rate.ensures.0 in
-    let time = c5.less.ensures.0 ∙ ap₂ (λ (x y : ℕ). x - y) c10.failure_of-failure.ensures c11.start_of-start.ensures in
-    let depth = c5.run_of-depth.ensures.0 ∙ ap₂ (λ (x y : ℕ). x * y) slow time in
-    let intact : c3.intact_end-intact.result ≡ intact_end p = c3.intact_end-intact.ensures
-    ∙ rw (c3.is_clad.ensures, c9.rate_of-rate.ensures.0, c10.failure_of-failure.ensures, c11.start_of-start.ensures) in
+    let p = c.args.p in
+    let slow = c.slow_rate-slow.ensures.0 ∙ ap₂ (λ (k r : ℕ). k * r) c.k2_of.ensures c.rate_of-rate.ensures.0 in
+    let time = c.less.ensures.0 ∙ ap₂ (λ (x y : ℕ). x - y) c.failure_of-failure.ensures c.start_of-start.ensures in
+    let depth = c.run_of-depth.ensures.0 ∙ ap₂ (λ (x y : ℕ). x * y) slow time in
+    let intact : c.intact_end-intact.result ≡ intact_end p = c.intact_end-intact.ensures
+    ∙ rw (c.is_clad.ensures, c.rate_of-rate.ensures.0, c.failure_of-failure.ensures, c.start_of-start.ensures) in
     let f : Fire = record {
-      start = c11.start_of-start.result;
-      failure = c10.failure_of-failure.result;
-      slow = c7.slow_rate-slow.result;
-      plain = 10000 * c9.rate_of-rate.result;
-      depth = c5.run_of-depth.result;
-      end = c2.passed_end.result;
+      start = c.start_of-start.result;
+      failure = c.failure_of-failure.result;
+      slow = c.slow_rate-slow.result;
+      plain = 10000 * c.rate_of-rate.result;
+      depth = c.run_of-depth.result;
+      end = c.passed_end.result;
       back = 100000000 * c.total_thickness.result;
       full = c.greater.result;
     } in
     let o : FireOf p f = record {
-      start = c11.start_of-start.ensures;
-      failure = c10.failure_of-failure.ensures;
+      start = c.start_of-start.ensures;
+      failure = c.failure_of-failure.ensures;
       slow = slow;
-      plain = ap (λ (r : ℕ). 10000 * r) c9.rate_of-rate.ensures.0;
+      plain = ap (λ (r : ℕ). 10000 * r) c.rate_of-rate.ensures.0;
       depth = depth;
-      end = c2.passed_end.ensures ∙ ap₂ (λ (d e : ℕ). passed_end d e (bond_lines p)) depth intact;
+      end = c.passed_end.ensures ∙ ap₂ (λ (d e : ℕ). passed_end d e (bond_lines p)) depth intact;
       back = ap (λ (k : ℕ). 100000000 * k) (c.total_thickness.ensures p.directions);
-      full = c.greater.ensures ∙ ap (λ (k : ℕ). max 20000 k) c11.start_of-start.ensures;
+      full = c.greater.ensures ∙ ap (λ (k : ℕ). max 20000 k) c.start_of-start.ensures;
     } in
-    (o, fire_bounds p f s.requires o)
+    (o, fire_bounds p f c.requires o)

@@ -16,22 +16,19 @@ loop-i-init c = (omega arith, (refl, refl))
 
 pub loop-i-preserved : goal.loop-i-preserved
 loop-i-preserved c =
-    let l = c in
-    let s = l in
-    let p = s.args.p in
-    let i = l.loop-i.i in
-    let h : i < length s.args.out.now = omega arith in (
+    let p = c.args.p in
+    let i = c.loop-i.i in
+    let h : i < length c.args.out.now = omega arith in (
       omega arith,
       (
-        simp length-set l.loop-i.invariant.1.0,
-        ap (set l.loop-i.out i) c.micrometres_in.ensures
-            ∙ fill_more (λ (minute : ℕ). micrometres_at p minute 1) s.args.out.now i l.loop-i.out h l.loop-i.invariant.1.1,
+        simp length-set c.loop-i.invariant.1.0,
+        ap (set c.loop-i.out i) c.micrometres_in.ensures
+            ∙ fill_more (λ (minute : ℕ). micrometres_at p minute 1) c.args.out.now i c.loop-i.out h c.loop-i.invariant.1.1,
       ),
     )
 
 pub returns : goal.returns
 unfolding depth_table
 returns c =
-    let s = c in
     let e : c.loop-i.i ≡ 361 = omega arith in
-    c.loop-i.invariant.1.1 ∙ ap (λ (k : ℕ). firsts (λ (minute : ℕ). micrometres_at s.args.p minute 1) k ++ drop k s.args.out.now) e
+    c.loop-i.invariant.1.1 ∙ ap (λ (k : ℕ). firsts (λ (minute : ℕ). micrometres_at c.args.p minute 1) k ++ drop k c.args.out.now) e

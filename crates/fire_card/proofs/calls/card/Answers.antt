@@ -18,18 +18,16 @@ use Rattle.fire_card.proofs.calls.card.Goals as goal
 pub returns-then-reading-ne0 : goal.returns-then-reading-ne0
 unfolding record_refusal
 returns-then-reading-ne0 c =
-    let r = c in
-    let a = r.args in
+    let a = c.args in
     let b = a.bytes.now in
     let both = text_refused (record_lines b) (text_of_card (panel_of b)) a.out.now
-    (ap (λ (x : Reading). x.refusal) r.read-reading.ensures ∙ read_refusal b) c.if-reading-ne0.true in
+    (ap (λ (x : Reading). x.refusal) c.read-reading.ensures ∙ read_refusal b) c.if-reading-ne0.true in
     record { value = both.0; out_after = both.1 }
 
 pub put_card-n-requires : goal.put_card-n-requires
 put_card-n-requires c =
-    let r = c in
-    let b = r.args.bytes.now in
-    let h = none_read b r.read-reading.result r.read-reading.ensures c.if-reading-ne0.false in
+    let b = c.args.bytes.now in
+    let h = none_read b c.read-reading.result c.read-reading.ensures c.if-reading-ne0.false in
     record {
       p_value = ap panel_refusal h.1 ∙ record_panel b h.0;
       card_most_in_bounds = le_refl card_most;
@@ -39,13 +37,11 @@ pub returns : goal.returns
 unfolding record_refusal
 returns c =
     let d = c.deliver in
-    let c6 = c in
-    let r = c6 in
-    let a = r.args in
+    let a = c.args in
     let b = a.bytes.now in
     let space = a.out.now in
-    let h = none_read b r.read-reading.result r.read-reading.ensures c6.if-reading-ne0.false in
-    let t = put_text c6.put_card-n.ensures (card_length r.read-reading.result.panel) ∙ ap text_of_card h.1 in
+    let h = none_read b c.read-reading.result c.read-reading.ensures c.if-reading-ne0.false in
+    let t = put_text c.put_card-n.ensures (card_length c.read-reading.result.panel) ∙ ap text_of_card h.1 in
     let o = text_delivered (record_lines b) (text_of_card (panel_of b)) space tt h.0 in record {
       value = d.ensures.value ∙ ap (λ (text : List ℕ). text_answer [] text space) t ∙ o.0;
       out_after = d.ensures.out_after ∙ ap (λ (text : List ℕ). text_after [] text space) t ∙ o.1;

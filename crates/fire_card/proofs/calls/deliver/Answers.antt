@@ -10,7 +10,6 @@ returns-then-out-n c =
 
 pub returns : goal.returns
 returns c =
-    let i = c in
-    let a = i.args in
-    let both = text_fits a.text.now a.out.now c.put_bytes.new.out i.if-out-n.false c.put_bytes.ensures in
+    let a = c.args in
+    let both = text_fits a.text.now a.out.now c.put_bytes.new.out c.if-out-n.false c.put_bytes.ensures in
     record { value = both.0; out_after = both.1 }

@@ -10,10 +10,9 @@ use Rattle.fire_card.proofs.calls.refusal.Goals as goal
 
 pub returns : goal.returns
 returns c =
-    let l = c in
-    let a = l.args in
+    let a = c.args in
     let d = c.deliver in
-    let t = put_text l.put_line-k.ensures (length_line refusal_head (a.n ∷ [])) in record {
+    let t = put_text c.put_line-k.ensures (length_line refusal_head (a.n ∷ [])) in record {
       value = d.ensures.value ∙ ap (λ (text : List ℕ). text_answer [] text a.out.now) t;
       out_after = d.ensures.out_after
           ∙ ap (λ (text : List ℕ). text_after [] text a.out.now) t;

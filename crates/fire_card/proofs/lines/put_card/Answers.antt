@@ -18,32 +18,23 @@ load_is p seconds load e s m = m ∙ ap minutes_in s ∙ minutes_printed p e
 
 pub shown-requires : goal.shown-requires
 shown-requires c =
-    let head = c in
-    let s = head in
-    (accepted_fits s.args.p s.requires.p_value).count
+    (accepted_fits c.args.p c.requires.p_value).count
 
 pub put_chars-chars-requires : goal.put_chars-chars-requires
 put_chars-chars-requires c =
-    let head = c in
-    let s = head in
     record {
-      fire_fits = shown_fits s.args.p c.shown.result s.requires.p_value c.shown.ensures;
+      fire_fits = shown_fits c.args.p c.shown.result c.requires.p_value c.shown.ensures;
       at_in_bounds = search rules;
     }
 
 pub put_ratings-requires : goal.put_ratings-requires
 put_ratings-requires c =
-    let head = c in
-    let e = head in
-    let load = e in
-    let seconds = load in
-    let s = seconds in
-    let p = s.args.p in record {
+    let p = c.args.p in record {
       load_le_last_minute = (
         subst (λ (m : ℕ). m ≤ 360)
-            (sym (load_is p seconds.load_seconds_of-seconds.result load.minutes_in-load.result s.requires.p_value seconds.load_seconds_of-seconds.ensures load.minutes_in-load.ensures))
+            (sym (load_is p c.load_seconds_of-seconds.result c.minutes_in-load.result c.requires.p_value c.load_seconds_of-seconds.ensures c.minutes_in-load.ensures))
             (printed_most p),
-        e.ei_minute_of-ei.ensures.1,
+        c.ei_minute_of-ei.ensures.1,
       );
       at_in_bounds = search rules;
     }
@@ -51,17 +42,11 @@ put_ratings-requires c =
 pub returns : goal.returns
 unfolding text_of_card
 returns c =
-    let chars = c in
-    let head = chars in
-    let e = head in
-    let load = e in
-    let seconds = load in
-    let s = seconds in
-    let p = s.args.p in
-    let ratings : rating_lines load.minutes_in-load.result seconds.load_seconds_of-seconds.result e.ei_minute_of-ei.result ≡ _ =
-    ap₂ (λ (m k : ℕ). rating_lines m k e.ei_minute_of-ei.result)
-    (load_is p seconds.load_seconds_of-seconds.result load.minutes_in-load.result s.requires.p_value seconds.load_seconds_of-seconds.ensures load.minutes_in-load.ensures)
-    seconds.load_seconds_of-seconds.ensures
-    ∙ ap (rating_lines (printed_load p) (printed_load_seconds p)) e.ei_minute_of-ei.ensures.0 in
-    put_then (put_then head.put_line-head.ensures (put_same (ap char_lines chars.shown.ensures) chars.put_chars-chars.ensures))
+    let p = c.args.p in
+    let ratings : rating_lines c.minutes_in-load.result c.load_seconds_of-seconds.result c.ei_minute_of-ei.result ≡ _ =
+    ap₂ (λ (m k : ℕ). rating_lines m k c.ei_minute_of-ei.result)
+    (load_is p c.load_seconds_of-seconds.result c.minutes_in-load.result c.requires.p_value c.load_seconds_of-seconds.ensures c.minutes_in-load.ensures)
+    c.load_seconds_of-seconds.ensures
+    ∙ ap (rating_lines (printed_load p) (printed_load_seconds p)) c.ei_minute_of-ei.ensures.0 in
+    put_then (put_then c.put_line-head.ensures (put_same (ap char_lines c.shown.ensures) c.put_chars-chars.ensures))
     (put_same ratings c.put_ratings.ensures)

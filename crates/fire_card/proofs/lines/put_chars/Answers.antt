@@ -4,7 +4,5 @@ use Rattle.fire_card.proofs.lines.put_chars.Goals as goal
 
 pub returns : goal.returns
 returns c =
-    let c6 = c in
-    let c10 = c6 in
-    put_then (put_then (put_then c10.put_char-at30.ensures c10.put_char-at60.ensures)
-    c6.put_char-at90.ensures) c.put_char.ensures
+    put_then (put_then (put_then c.put_char-at30.ensures c.put_char-at60.ensures)
+    c.put_char-at90.ensures) c.put_char.ensures

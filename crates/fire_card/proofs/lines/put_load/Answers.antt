@@ -10,13 +10,9 @@ use Rattle.fire_card.proofs.lines.put_load.Goals as goal
 
 pub returns : goal.returns
 returns c =
-    let t = c in
-    let l = t in
-    let s = l in
-    let m = s in
-    let g = m in
+    let g = c in
     let a = g.args in
     put_then
-    (put_same (ap (λ (g : Grade). text_line load_head (a.load ∷ g.minutes ∷ [])) g.of-r.ensures) l.put_line-after_r.ensures)
-    (put_same (ap₂ (λ (minutes seconds : ℕ). time_line time_head minutes seconds) m.minutes_in-minutes.ensures s.seconds_over-over.ensures)
-    t.put_time.ensures)
+    (put_same (ap (λ (g : Grade). text_line load_head (a.load ∷ g.minutes ∷ [])) g.of-r.ensures) c.put_line-after_r.ensures)
+    (put_same (ap₂ (λ (minutes seconds : ℕ). time_line time_head minutes seconds) c.minutes_in-minutes.ensures c.seconds_over-over.ensures)
+    c.put_time.ensures)

@@ -9,12 +9,8 @@ use Rattle.fire_card.proofs.lines.put_ratings.Goals as goal
 
 pub returns : goal.returns
 returns c =
-    let rei = c in
-    let ei = rei in
-    let load = ei in
-    let both = load in
-    let a = both.args in
+    let a = c.args in
     put_then
-    (put_then load.put_load-after_load.ensures
-    (put_same (ap (λ (g : Grade). text_line ei_head (a.ei ∷ g.minutes ∷ [])) both.of-e.ensures) ei.put_line-after_ei.ensures))
-    (put_same (ap (λ (g : Grade). text_line rei_head (g.minutes ∷ [])) both.of_lower-both.ensures) rei.put_line.ensures)
+    (put_then c.put_load-after_load.ensures
+    (put_same (ap (λ (g : Grade). text_line ei_head (a.ei ∷ g.minutes ∷ [])) c.of-e.ensures) c.put_line-after_ei.ensures))
+    (put_same (ap (λ (g : Grade). text_line rei_head (g.minutes ∷ [])) c.of_lower-both.ensures) c.put_line.ensures)

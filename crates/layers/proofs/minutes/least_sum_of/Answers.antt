@@ -11,9 +11,8 @@ ei_sum_of-sum-requires c =
 
 pub ei_sum_of-requires : goal.ei_sum_of-requires
 ei_sum_of-requires c =
-    let start = c in
-    let p = start.args.p in
-    subst Keeps (sym c.turned.ensures) (accepted_keeps _ (refusal_turned p ∙ start.requires))
+    let p = c.args.p in
+    subst Keeps (sym c.turned.ensures) (accepted_keeps _ (refusal_turned p ∙ c.requires))
 
 pub shown-requires : goal.shown-requires
 shown-requires c = (accepted_fits c.args.p c.requires).count

@@ -17,22 +17,20 @@ protected-s-requires c = (c.boards_sum.ensures.1, (omega arith, λ i h. thicknes
 
 pub time_at-t-requires : goal.time_at-t-requires
 time_at-t-requires c =
-    let r = c in
-    thicknesses_keep r.args.p r.requires (r.args.p.count - 1) (omega arith)
+    thicknesses_keep c.args.p c.requires (c.args.p.count - 1) (omega arith)
 
 pub returns : goal.returns
 unfolding ei_sum with_layer time_of joint_of
 returns c =
-    let s = c in
-    let p = s.args.p in
+    let p = c.args.p in
     let gs = p.directions in
     let ts = p.thicknesses in
     let bs = map board_layer (boards_of p.cladding) in
     let i = p.count - 1 in
     let e : i + 1 ≡ p.count = omega arith in
     c.with_time.ensures.0
-    ∙ ap (λ (t : ℕ). s.protected-s.result + layer_time s.protected-s.result t 100) c.time_at-t.ensures.0
+    ∙ ap (λ (t : ℕ). c.protected-s.result + layer_time c.protected-s.result t 100) c.time_at-t.ensures.0
     ∙ ap (λ (k : ℕ). with_layer Insulation k (lamella_layer (lamella (get_or gs i 0) (get_or ts i 0))))
-    (s.protected-s.ensures.0 gs ∙ ap (λ (k : ℕ). protected_after k (map lamella_layer (lamellae_of gs ts i))) s.boards_sum.ensures.0)
+    (c.protected-s.ensures.0 gs ∙ ap (λ (k : ℕ). protected_after k (map lamella_layer (lamellae_of gs ts i))) c.boards_sum.ensures.0)
     ∙ sym (sum_of bs gs ts i)
     ∙ ap (λ (k : ℕ). sum_after 0 (bs ++ map lamella_layer (lamellae_of gs ts k))) e

@@ -16,17 +16,16 @@ loop-i-init c = (omega arith, (omega arith, λ gs. refl))
 pub loop-i-preserved : goal.loop-i-preserved
 unfolding with_layer time_of joint_of
 loop-i-preserved c =
-    let l = c in
-    let s = l.args.s in
-    let ts = l.args.thicknesses in
-    let i = l.loop-i.i in (
+    let s = c.args.s in
+    let ts = c.args.thicknesses in
+    let i = c.loop-i.i in (
       omega arith,
       (
         omega arith,
         λ gs.
             c.with_time-sum.ensures.0
-            ∙ ap (λ (t : ℕ). l.loop-i.sum + layer_time l.loop-i.sum t 100) c.time_at-t.ensures.0
-            ∙ ap (λ (k : ℕ). with_layer Protection k (lamella_layer (lamella (get_or gs i 0) (get_or ts i 0)))) (l.loop-i.invariant.1.1 gs)
+            ∙ ap (λ (t : ℕ). c.loop-i.sum + layer_time c.loop-i.sum t 100) c.time_at-t.ensures.0
+            ∙ ap (λ (k : ℕ). with_layer Protection k (lamella_layer (lamella (get_or gs i 0) (get_or ts i 0)))) (c.loop-i.invariant.1.1 gs)
             ∙ sym (protected_more s gs ts i),
       ),
     )

@@ -10,10 +10,9 @@ use Rattle.layers.proofs.sums.with_board.Goals as goal
 pub returns : goal.returns
 unfolding with_layer time_of joint_of
 returns c =
-    let s = c in
-    let a = s.args in (
+    let a = c.args in (
       c.with_time.ensures.0
           ∙ ap (λ (t : ℕ). a.s + layer_time a.s t a.b.joint)
-          (c.time_at-t.ensures.0 ∙ ap (λ (m : Material). basic_time Protection m a.b.thickness) s.material_of.ensures),
+          (c.time_at-t.ensures.0 ∙ ap (λ (m : Material). basic_time Protection m a.b.thickness) c.material_of.ensures),
       c.with_time.ensures.1,
     )

@@ -14,23 +14,19 @@ returns-then-m-ne0 c = turned_back Refused _ c.panel_refusal-m.ensures c.if-m-ne
 pub returns-then-n-ne0 : goal.returns-then-n-ne0
 unfolding compared
 returns-then-n-ne0 c =
-    let first = c in
-    let_through Refused first.panel_refusal-m.ensures first.if-m-ne0.false
+    let_through Refused c.panel_refusal-m.ensures c.if-m-ne0.false
     (turned_back Refused _ c.panel_refusal-n.ensures c.if-n-ne0.true)
 
 pub is_same_build-requires : goal.is_same_build-requires
 is_same_build-requires c =
-    let first = c in
-    let args = first.args in (
-      (accepted_fits args.a (sym first.panel_refusal-m.ensures ∙ first.if-m-ne0.false)).count,
+    let args = c.args in (
+      (accepted_fits args.a (sym c.panel_refusal-m.ensures ∙ c.if-m-ne0.false)).count,
       (accepted_fits args.b (sym c.panel_refusal-n.ensures ∙ c.if-n-ne0.false)).count,
     )
 
 pub returns : goal.returns
 unfolding compared
 returns c =
-    let second = c in
-    let first = second in
-    let_through Refused first.panel_refusal-m.ensures first.if-m-ne0.false
-    (let_through Refused second.panel_refusal-n.ensures second.if-n-ne0.false
+    let_through Refused c.panel_refusal-m.ensures c.if-m-ne0.false
+    (let_through Refused c.panel_refusal-n.ensures c.if-n-ne0.false
     (c.same_if.ensures ∙ ap same_if c.is_same_build.ensures))

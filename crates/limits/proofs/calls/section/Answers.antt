@@ -30,36 +30,30 @@ shown-exposed-requires c = (accepted_fits c.args.p (sym c.panel_refusal-n.ensure
 
 pub section_at-s-requires : goal.section_at-s-requires
 section_at-s-requires c =
-    let r = c in
-    fits_shown r.args.p c.shown-exposed.result r.panel_refusal-n.ensures c.if-n-ne0.false c.shown-exposed.ensures
+    fits_shown c.args.p c.shown-exposed.result c.panel_refusal-n.ensures c.if-n-ne0.false c.shown-exposed.ensures
 
 pub section_passes-requires : goal.section_passes-requires
 section_passes-requires c =
-    let s = c in
-    let fire = s.shown-exposed in
-    let r = s in
-    let a = r.args in
-    let f = fits_shown a.p fire.result r.panel_refusal-n.ensures s.if-n-ne0.false fire.ensures in record {
+    let fire = c.shown-exposed in
+    let a = c.args in
+    let f = fits_shown a.p fire.result c.panel_refusal-n.ensures c.if-n-ne0.false fire.ensures in record {
       factor_bound = c.factor_of.ensures.1;
       moment_bound = f.moment;
       strength_bound = f.strength;
       section_bounds = (
-        rw s.section_at-s.ensures (counted_bounds a.depth (lamellae fire.result) f.thickness),
-        rw s.section_at-s.ensures (nothing_cut a.depth (lamellae fire.result)),
+        rw c.section_at-s.ensures (counted_bounds a.depth (lamellae fire.result) f.thickness),
+        rw c.section_at-s.ensures (nothing_cut a.depth (lamellae fire.result)),
       );
     }
 
 pub returns : goal.returns
 unfolding section_answer
 returns c =
-    let f = c in
-    let s = f in
-    let fire = s.shown-exposed in
-    let r = s in
-    let a = r.args in
+    let fire = c.shown-exposed in
+    let a = c.args in
     let q = fire.result in
-    let_through Refused r.panel_refusal-n.ensures s.if-n-ne0.false
-    (ap₂ At s.section_at-s.ensures
+    let_through Refused c.panel_refusal-n.ensures c.if-n-ne0.false
+    (ap₂ At c.section_at-s.ensures
     (c.section_passes.ensures
-    ∙ ap₂ (λ (factor : ℕ) (x : Section). carries factor q.moment q.strength x) f.factor_of.ensures.0 s.section_at-s.ensures)
+    ∙ ap₂ (λ (factor : ℕ) (x : Section). carries factor q.moment q.strength x) c.factor_of.ensures.0 c.section_at-s.ensures)
     ∙ ap (λ (x : Panel). At (section_at x a.depth) (depth_passes x a.depth)) fire.ensures)

@@ -23,14 +23,14 @@ module _ (f : ByteFaults) (p : Panel) {n : ℕ} (e : n ≡ refusal (down_to 10 (
   none : (k : ℕ) → cause_of k (down_to 10 (table_lines f p)) ≡ false
   none = cause_none (down_to 10 (table_lines f p)) tt (sym e ∙ z)
 
-  count-good : bad_count p.count ≡ false
-  count-good = (or_none f.lamella_count (bad_count p.count) (none 10)).1
+  count_good : bad_count p.count ≡ false
+  count_good = (or_none f.lamella_count (bad_count p.count) (none 10)).1
 
   count_most : p.count ≤ 9
-  count_most = (in_range 1 9 p.count count-good).1
+  count_most = (in_range 1 9 p.count count_good).1
 
   fits : {m : ℕ} → m ≡ refusal (middle f p) → m ≡ 0 → SectionFits p
-  fits e' z' = section_fits p (none 5) count-good (cause_none (middle f p) tt (sym e' ∙ z') 11)
+  fits e' z' = section_fits p (none 5) count_good (cause_none (middle f p) tt (sym e' ∙ z') 11)
 
 pub returns-then-upper-ne0 : goal.returns-then-upper-ne0
 returns-then-upper-ne0 c =
@@ -45,33 +45,28 @@ none_along-requires c =
 
 pub bad_lamellae-requires : goal.bad_lamellae-requires
 bad_lamellae-requires c =
-    let past = c in
-    let a = past.args in
-    count_most a.f a.p past.upper_refusal-upper.ensures past.if-upper-ne0.false
+    let a = c.args in
+    count_most a.f a.p c.upper_refusal-upper.ensures c.if-upper-ne0.false
 
 pub returns-then-lamellae-ne0 : goal.returns-then-lamellae-ne0
 returns-then-lamellae-ne0 c =
-    let past = c in
-    let a = past.args in
+    let a = c.args in
     let t = table_lines a.f a.p in
     let e : c.line_or-lamellae.result ≡ refusal (middle a.f a.p) = cc in
-    open_above (down_to 10 t) (below 10 t) tt past.upper_refusal-upper.ensures past.if-upper-ne0.false
+    open_above (down_to 10 t) (below 10 t) tt c.upper_refusal-upper.ensures c.if-upper-ne0.false
     (turned_above (middle a.f a.p) (below 12 t) e c.if-lamellae-ne0.true)
 
 pub bad_section-requires : goal.bad_section-requires
 bad_section-requires c =
-    let past = c in
-    let a = past.args in
+    let a = c.args in
     let e : c.line_or-lamellae.result ≡ refusal (middle a.f a.p) = cc in
-    fits a.f a.p past.upper_refusal-upper.ensures past.if-upper-ne0.false e c.if-lamellae-ne0.false
+    fits a.f a.p c.upper_refusal-upper.ensures c.if-upper-ne0.false e c.if-lamellae-ne0.false
 
 pub returns : goal.returns
 returns c =
-    let lamellae = c in
-    let past = lamellae in
-    let a = past.args in
+    let a = c.args in
     let t = table_lines a.f a.p in
-    let e : lamellae.line_or-lamellae.result ≡ refusal (middle a.f a.p) = cc in
+    let e : c.line_or-lamellae.result ≡ refusal (middle a.f a.p) = cc in
     let last : c.line_or.result ≡ refusal (below 12 t) = cc in
-    open_above (down_to 10 t) (below 10 t) tt past.upper_refusal-upper.ensures past.if-upper-ne0.false
+    open_above (down_to 10 t) (below 10 t) tt c.upper_refusal-upper.ensures c.if-upper-ne0.false
     (open_above (middle a.f a.p) (below 12 t) tt e c.if-lamellae-ne0.false last)

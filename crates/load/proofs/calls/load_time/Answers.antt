@@ -14,9 +14,6 @@ returns-then-n-ne0 c = turned_back Refused _ c.panel_refusal-n.ensures c.if-n-ne
 pub returns : goal.returns
 unfolding load_time_answer
 returns c =
-    let m = c in
-    let s = m in
-    let i = s in
-    let_through Refused i.panel_refusal-n.ensures i.if-n-ne0.false
-    (ap₂ MinutesAndSeconds m.minutes_in.ensures c.seconds_over.ensures
-    ∙ ap (λ (seconds : ℕ). MinutesAndSeconds (minutes_in seconds) (seconds_over seconds)) s.load_seconds_of-seconds.ensures)
+    let_through Refused c.panel_refusal-n.ensures c.if-n-ne0.false
+    (ap₂ MinutesAndSeconds c.minutes_in.ensures c.seconds_over.ensures
+    ∙ ap (λ (seconds : ℕ). MinutesAndSeconds (minutes_in seconds) (seconds_over seconds)) c.load_seconds_of-seconds.ensures)

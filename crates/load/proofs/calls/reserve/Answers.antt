@@ -22,18 +22,16 @@ pub load_minute_of-requires : goal.load_minute_of-requires
 load_minute_of-requires c = (minute_taken _ _ (sym c.minute_refusal-n.ensures ∙ c.if-n-ne0.false)).0
 
 pub reserve_of-requires : goal.reserve_of-requires
-reserve_of-requires c =
-    let taken = c in (
-      subst (λ (m : ℕ). m ≤ 360) (sym c.load_minute_of.ensures) (printed_most taken.args.p),
-      (minute_taken _ _ (sym taken.minute_refusal-n.ensures ∙ c.if-n-ne0.false)).1,
-    )
+reserve_of-requires c = (
+  subst (λ (m : ℕ). m ≤ 360) (sym c.load_minute_of.ensures) (printed_most c.args.p),
+  (minute_taken _ _ (sym c.minute_refusal-n.ensures ∙ c.if-n-ne0.false)).1,
+)
 
 pub returns : goal.returns
 unfolding reserve_answer
 returns c =
-    let r = c in
-    let a = r.args in
-    let e = r.minute_refusal-n.ensures in
+    let a = c.args in
+    let e = c.minute_refusal-n.ensures in
     let z = c.if-n-ne0.false in
     let worked = c.reserve_of.ensures ∙ ap (reserve_of a.wanted) c.load_minute_of.ensures in
     let fits = reserve_fits (printed_load a.p) a.wanted (printed_most a.p) (minute_taken a.p a.wanted (sym e ∙ z)).1 in

@@ -62,8 +62,8 @@ range_next reached to depth l u = go (eqb to (reached + 1)) refl
 -- the test of a range
 module _ (p : Panel) (edge deep : Section) (factor reached to : ℕ) (b : Bool) (from : edge ≡ section_at p (range_start reached to))
     (last : deep ≡ section_at p to) (f : factor ≡ factor_of p.bond) (e : b ≡ carries_between factor p.moment p.strength edge deep) where
-  by-depths : b ≡ carries_between (factor_of p.bond) p.moment p.strength (section_at p (range_start reached to)) (section_at p to)
-  by-depths = e ∙ λ i. carries_between (f i) p.moment p.strength (from i) (last i)
+  by_depths : b ≡ carries_between (factor_of p.bond) p.moment p.strength (section_at p (range_start reached to)) (section_at p to)
+  by_depths = e ∙ λ i. carries_between (f i) p.moment p.strength (from i) (last i)
 
   -- where it holds every depth to its end passes
   passes_on : EveryTenthPasses (depth_passes p) reached → b ≡ true → EveryTenthPasses (depth_passes p) to
@@ -73,14 +73,14 @@ module _ (p : Panel) (edge deep : Section) (factor reached to : ℕ) (b : Bool) 
       go (yes l) = before depth l
       go (no l) =
           between_carries (factor_of p.bond) p.moment p.strength (range_start reached to) depth to (lamellae p)
-          (range_next reached to depth (omega arith) u) u (sym by-depths ∙ h)
+          (range_next reached to depth (omega arith) u) u (sym by_depths ∙ h)
 
   -- of a single depth it is the test of that depth
-  single-fails : eqb to (reached + 1) ≡ true → b ≡ false → depth_passes p to ≡ false
+  single_fails : eqb to (reached + 1) ≡ true → b ≡ false → depth_passes p to ≡ false
   unfolding carries carries_between
-  single-fails one h =
+  single_fails one h =
       let here : section_at p (range_start reached to) ≡ section_at p to = ap (λ (t : Bool). section_at p (pick t to reached)) one in
-      sym (by-depths ∙ ap (λ (s : Section). carries_between (factor_of p.bond) p.moment p.strength s (section_at p to)) here) ∙ h
+      sym (by_depths ∙ ap (λ (s : Section). carries_between (factor_of p.bond) p.moment p.strength s (section_at p to)) here) ∙ h
 
 -- a depth that does not pass decides
 not_every : (passes : ℕ → Bool) (depth deepest : ℕ) → depth ≤ deepest → passes depth ≡ false → every_from passes 0 deepest ≡ false
@@ -108,9 +108,8 @@ edge_of c =
 pub section_passes-requires : goal.section_passes-requires
 section_passes-requires c =
     let factor = c.factor_of-factor in
-    let start = c in
-    let p = start.args.p in
-    let fits = start.requires.0 in
+    let p = c.args.p in
+    let fits = c.requires.0 in
     record {
       factor_bound = factor.ensures.1;
       moment_bound = fits.moment;
@@ -122,21 +121,18 @@ pub returns-then-not-section_passes : goal.returns-then-not-section_passes
 returns-then-not-section_passes c =
     let s = c.section_in-shallow in
     let factor = c.factor_of-factor in
-    let start = c in
     let passes = c.section_passes in
     sym
-    (not_every (depth_passes start.args.p) 0 start.args.deepest (omega arith)
-    (sym (tested start.args.p s.result factor.result 0 passes.result s.ensures factor.ensures.0 passes.ensures)
+    (not_every (depth_passes c.args.p) 0 c.args.deepest (omega arith)
+    (sym (tested c.args.p s.result factor.result 0 passes.result s.ensures factor.ensures.0 passes.ensures)
     ∙ c.if-not-section_passes.true))
 
 pub sections_pass-requires : goal.sections_pass-requires
 sections_pass-requires c =
     let deep = c.section_in-deep in
-    let l = c in
-    let factor = l.factor_of-factor in
-    let start = l in
-    let p = start.args.p in
-    let fits = start.requires.0 in record {
+    let factor = c.factor_of-factor in
+    let p = c.args.p in
+    let fits = c.requires.0 in record {
       factor_bound = factor.ensures.1;
       moment_bound = fits.moment;
       strength_bound = fits.strength;
@@ -148,12 +144,9 @@ pub loop-reached-preserved-then-sections_pass : goal.loop-reached-preserved-then
 loop-reached-preserved-then-sections_pass c =
     let pass = c.sections_pass in
     let deep = c.section_in-deep in
-    let to = c in
-    let l = to in
-    let factor = l.factor_of-factor in
-    let start = l in
+    let factor = c.factor_of-factor in
     let on = further (goal.at.loop-reached-preserved-then-sections_pass c).After-lesser-to in
-    let most = start.requires.1 in (
+    let most = c.requires.1 in (
       on.1,
       (
         λ h. omega (arith, on.0),
@@ -161,8 +154,8 @@ loop-reached-preserved-then-sections_pass c =
           omega (arith, on.1),
           (
             deep.ensures,
-            passes_on start.args.p c.if-single.edge deep.result factor.result l.loop-reached.reached to.lesser-to.result
-                pass.result (edge_of (goal.at.loop-reached-preserved-then-sections_pass c).Joined-single) deep.ensures factor.ensures.0 pass.ensures l.loop-reached.invariant.1.1.1.1
+            passes_on c.args.p c.if-single.edge deep.result factor.result c.loop-reached.reached c.lesser-to.result
+                pass.result (edge_of (goal.at.loop-reached-preserved-then-sections_pass c).Joined-single) deep.ensures factor.ensures.0 pass.ensures c.loop-reached.invariant.1.1.1.1
                 c.if-sections_pass.true,
           ),
         ),
@@ -173,21 +166,16 @@ pub returns-then-single-2 : goal.returns-then-single-2
 returns-then-single-2 c =
     let pass = c.sections_pass in
     let deep = c.section_in-deep in
-    let to = c in
-    let l = to in
-    let factor = l.factor_of-factor in
-    let start = l in
-    let p = start.args.p in
+    let factor = c.factor_of-factor in
+    let p = c.args.p in
     sym
-    (not_every (depth_passes p) to.lesser-to.result start.args.deepest (further (goal.at.returns-then-single-2 c).After-lesser-to).1
-    (single-fails p c.if-single.edge deep.result factor.result l.loop-reached.reached to.lesser-to.result pass.result
+    (not_every (depth_passes p) c.lesser-to.result c.args.deepest (further (goal.at.returns-then-single-2 c).After-lesser-to).1
+    (single_fails p c.if-single.edge deep.result factor.result c.loop-reached.reached c.lesser-to.result pass.result
     (edge_of (goal.at.returns-then-single-2 c).Joined-single) deep.ensures factor.ensures.0 pass.ensures (eq-eqb _ _ c.if-single-2.true) c.if-sections_pass.false))
 
 pub returns : goal.returns
 returns c =
-    let l = c in
-    let start = l in
-    let p = start.args.p in
-    let i = l.loop-reached.invariant in
-    let end : l.loop-reached.reached ≡ start.args.deepest = omega (arith, i.0) in
-    sym ((every_tenth (depth_passes p) start.args.deepest).1 (λ d u. i.1.1.1.1 d (omega arith)))
+    let p = c.args.p in
+    let i = c.loop-reached.invariant in
+    let end : c.loop-reached.reached ≡ c.args.deepest = omega (arith, i.0) in
+    sym ((every_tenth (depth_passes p) c.args.deepest).1 (λ d u. i.1.1.1.1 d (omega arith)))

@@ -8,10 +8,9 @@ use Rattle.load.proofs.lasting.fire_lasts.Goals as goal
 
 pub every_depth_passes-requires : goal.every_depth_passes-requires
 every_depth_passes-requires c =
-    let first = c in
-    let fits = first.requires.section_fits.0 in
+    let fits = c.requires.section_fits.0 in
     let thick = fits.thickness in
-    let within = tenths_within first.args.p first.args.minute 1 (omega arith) in
+    let within = tenths_within c.args.p c.args.minute 1 (omega arith) in
     (fits, omega (arith, c.tenths_in.ensures))
 
 pub returns : goal.returns

@@ -34,21 +34,19 @@ answered p r minute b same e = e ∙ ap (λ (fire : Panel). time_test fire minut
 
 pub fire_lasts-requires : goal.fire_lasts-requires
 fire_lasts-requires c =
-    let start = c in
-    let p = start.args.p in
+    let p = c.args.p in
     record {
-      section_fits = subst Fits (sym c.shown.ensures) (shown_holds Fits p.face p (fits p start.requires.p_value) (turned_fits p start.requires.p_value));
-      minute_le_last_minute = start.requires.minute_le_last_minute;
+      section_fits = subst Fits (sym c.shown.ensures) (shown_holds Fits p.face p (fits p c.requires.p_value) (turned_fits p c.requires.p_value));
+      minute_le_last_minute = c.requires.minute_le_last_minute;
     }
 
 pub returns-then-not-fire_lasts : goal.returns-then-not-fire_lasts
 unfolding lasts
 returns-then-not-fire_lasts c =
     let one = c.fire_lasts in
-    let s = c in
-    let p = s.args.p in
-    let minute = s.args.minute in
-    let first = answered (shown p) s.shown.result minute one.result s.shown.ensures one.ensures in
+    let p = c.args.p in
+    let minute = c.args.minute in
+    let first = answered (shown p) c.shown.result minute one.result c.shown.ensures one.ensures in
     let fails = sym first ∙ c.if-not-fire_lasts.true in
     sym
     (not_true_false (lasts p minute)
@@ -57,34 +55,29 @@ returns-then-not-fire_lasts c =
 pub returns-then-p-lt2 : goal.returns-then-p-lt2
 unfolding lasts
 returns-then-p-lt2 c =
-    let i = c in
-    let one = i.fire_lasts in
-    let s = i in
-    let p = s.args.p in
-    let minute = s.args.minute in
-    let first = answered (shown p) s.shown.result minute one.result s.shown.ensures one.ensures in
-    sym (i.if-not-fire_lasts.false) ∙ first ∙ every_one (λ fire. time_test fire minute 1) p.face p c.if-p-lt2.true
+    let one = c.fire_lasts in
+    let p = c.args.p in
+    let minute = c.args.minute in
+    let first = answered (shown p) c.shown.result minute one.result c.shown.ensures one.ensures in
+    sym (c.if-not-fire_lasts.false) ∙ first ∙ every_one (λ fire. time_test fire minute 1) p.face p c.if-p-lt2.true
 
 pub fire_lasts-requires-2 : goal.fire_lasts-requires-2
 fire_lasts-requires-2 c =
-    let start = c in
     record {
-      section_fits = subst Fits (sym c.turned.ensures) (turned_fits start.args.p start.requires.p_value);
-      minute_le_last_minute = start.requires.minute_le_last_minute;
+      section_fits = subst Fits (sym c.turned.ensures) (turned_fits c.args.p c.requires.p_value);
+      minute_le_last_minute = c.requires.minute_le_last_minute;
     }
 
 pub returns : goal.returns
 unfolding lasts
 returns c =
     let other = c.fire_lasts-2 in
-    let i = c in
-    let one = i.fire_lasts in
-    let s = i in
-    let p = s.args.p in
-    let minute = s.args.minute in
-    let first = answered (shown p) s.shown.result minute one.result s.shown.ensures one.ensures in
+    let one = c.fire_lasts in
+    let p = c.args.p in
+    let minute = c.args.minute in
+    let first = answered (shown p) c.shown.result minute one.result c.shown.ensures one.ensures in
     let second = answered (turned p) c.turned.result minute other.result c.turned.ensures other.ensures in
-    ap₂ (λ (a b : Bool). a && b) (sym (i.if-not-fire_lasts.false) ∙ first) second
+    ap₂ (λ (a b : Bool). a && b) (sym (c.if-not-fire_lasts.false) ∙ first) second
     ∙ every_two (λ fire. time_test fire minute 1) p.face p c.if-p-lt2.false
 
 pub shown-requires : goal.shown-requires

@@ -6,5 +6,4 @@ use Rattle.load.proofs.minutes.load_minute_of.Goals as goal
 
 pub returns : goal.returns
 returns c =
-    let s = c in
-    c.minutes_in.ensures ∙ ap minutes_in s.load_seconds_of.ensures ∙ minutes_printed s.args.p s.requires
+    c.minutes_in.ensures ∙ ap minutes_in c.load_seconds_of.ensures ∙ minutes_printed c.args.p c.requires

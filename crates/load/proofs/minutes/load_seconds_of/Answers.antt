@@ -10,8 +10,7 @@ fire_seconds-seconds-requires c = ap panel_refusal c.shown.ensures ∙ shown_acc
 
 pub fire_seconds-requires : goal.fire_seconds-requires
 fire_seconds-requires c =
-    let start = c in
-    ap panel_refusal c.turned.ensures ∙ refusal_turned start.args.p ∙ start.requires
+    ap panel_refusal c.turned.ensures ∙ refusal_turned c.args.p ∙ c.requires
 
 pub shown-requires : goal.shown-requires
 shown-requires c = (accepted_fits c.args.p c.requires).count

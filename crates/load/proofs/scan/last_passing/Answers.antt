@@ -1,4 +1,4 @@
--- `load::scan::last_passing` meets its contract: every depth to the present one passes, and the first that does not decides. Assumes
+-- `load::scan::last_passing` meets its contract: every depth to the present one passes, and the first that does not decides.
 use Prim.Native.Nat.{ℕ, ◌+◌, ◌<◌}
 use Rattle.load.proofs.LastPassing.{last_found}
 use Rattle.load.specs.Failure.{EveryTenthPasses}
@@ -50,72 +50,61 @@ passes_more p depth next e all one d u =
 
 pub section_passes-requires : goal.section_passes-requires
 section_passes-requires c =
-    let d = c in
-    let l = d in
-    let factor = l.factor_of-factor in
-    let start = l in
-    let p = start.args.p in
-    let fits = start.requires.0 in
+    let factor = c.factor_of-factor in
+    let p = c.args.p in
+    let fits = c.requires.0 in
     record {
       factor_bound = factor.ensures.1;
       moment_bound = fits.moment;
       strength_bound = fits.strength;
-      section_bounds = bounds p d.deeper-next.result fits d.deeper-next.ensures.0;
+      section_bounds = bounds p c.deeper-next.result fits c.deeper-next.ensures.0;
     }
 
 pub returns-then-not-section_passes : goal.returns-then-not-section_passes
 returns-then-not-section_passes c =
-    let d = c in
-    let l = d in
-    let factor = l.factor_of-factor in
-    let p = l.args.p in
-    let i = l.loop-c.invariant in
+    let factor = c.factor_of-factor in
+    let p = c.args.p in
+    let i = c.loop-c.invariant in
     let passes = c.section_passes in
     sym
-    (last_found p l.loop-c.c.depth i.1.0 i.1.1
-    (λ _. sym (tested p d.deeper-next.result factor.result (l.loop-c.c.depth + 1) passes.result d.deeper-next.ensures.0 factor.ensures.0
-    d.deeper-next.ensures.1 passes.ensures) ∙ c.if-not-section_passes.true))
+    (last_found p c.loop-c.c.depth i.1.0 i.1.1
+    (λ _. sym (tested p c.deeper-next.result factor.result (c.loop-c.c.depth + 1) passes.result c.deeper-next.ensures.0 factor.ensures.0
+    c.deeper-next.ensures.1 passes.ensures) ∙ c.if-not-section_passes.true))
 
 pub loop-c-preserved-else-not-section_passes : goal.loop-c-preserved-else-not-section_passes
 loop-c-preserved-else-not-section_passes c =
-    let d = c in
-    let l = d in
-    let factor = l.factor_of-factor in
-    let p = l.args.p in
-    let next = d.deeper-next.ensures.1 in
+    let factor = c.factor_of-factor in
+    let p = c.args.p in
+    let next = c.deeper-next.ensures.1 in
     let passes = c.section_passes in (
-      d.deeper-next.ensures.0,
+      c.deeper-next.ensures.0,
       (
-        omega (arith, d.loop-c-test.true, l.total_thickness-bottom.ensures p.directions),
-        passes_more p l.loop-c.c.depth d.deeper-next.result.depth next l.loop-c.invariant.1.1
-            (sym (tested p d.deeper-next.result factor.result (l.loop-c.c.depth + 1) passes.result d.deeper-next.ensures.0 factor.ensures.0 next
+        omega (arith, c.loop-c-test.true, c.total_thickness-bottom.ensures p.directions),
+        passes_more p c.loop-c.c.depth c.deeper-next.result.depth next c.loop-c.invariant.1.1
+            (sym (tested p c.deeper-next.result factor.result (c.loop-c.c.depth + 1) passes.result c.deeper-next.ensures.0 factor.ensures.0 next
             passes.ensures) ∙ c.if-not-section_passes.false),
       ),
     )
 
 pub loop-c-preserved : goal.loop-c-preserved
 loop-c-preserved c =
-    let d = c in
-    let l = d in
-    let start = l in
-    let p = start.args.p in
-    let i = l.loop-c.invariant in
-    let next = d.deeper-next.ensures.1 in (
-      d.deeper-next.ensures.0,
+    let p = c.args.p in
+    let i = c.loop-c.invariant in
+    let next = c.deeper-next.ensures.1 in (
+      c.deeper-next.ensures.0,
       (
-        omega (arith, d.loop-c-test.true, l.total_thickness-bottom.ensures p.directions),
-        passes_more p l.loop-c.c.depth d.deeper-next.result.depth next i.1.1
-            (passes_still p l.loop-c.c d.deeper-next.result start.requires.1.0 i.0 d.deeper-next.ensures.0 next c.if-next-c.false
-            ∙ i.1.1 l.loop-c.c.depth (le_refl l.loop-c.c.depth)),
+        omega (arith, c.loop-c-test.true, c.total_thickness-bottom.ensures p.directions),
+        passes_more p c.loop-c.c.depth c.deeper-next.result.depth next i.1.1
+            (passes_still p c.loop-c.c c.deeper-next.result c.requires.1.0 i.0 c.deeper-next.ensures.0 next c.if-next-c.false
+            ∙ i.1.1 c.loop-c.c.depth (le_refl c.loop-c.c.depth)),
       ),
     )
 
 pub returns : goal.returns
 returns c =
-    let l = c in
-    let p = l.args.p in
-    let i = l.loop-c.invariant in
+    let p = c.args.p in
+    let i = c.loop-c.invariant in
     sym
-    (last_found p l.loop-c.c.depth i.1.0 i.1.1
+    (last_found p c.loop-c.c.depth i.1.0 i.1.1
     (λ less. absurd
-    (let z : ⊥ = omega (arith, c.loop-c-test.false, l.total_thickness-bottom.ensures p.directions) in z)))
+    (let z : ⊥ = omega (arith, c.loop-c-test.false, c.total_thickness-bottom.ensures p.directions) in z)))

@@ -21,38 +21,33 @@ decided p second tenths last e d l = time_by_depth p second 60 (omega arith) e �
 
 pub loop-second-init : goal.loop-second-init
 loop-second-init c =
-    let start = c in
-    (omega arith, (omega arith, (test_zero start.args.p 60 (omega arith) start.requires.section_fits.1.1, λ h. absurd (let z : ⊥ = omega arith in z))))
+    (omega arith, (omega arith, (test_zero c.args.p 60 (omega arith) c.requires.section_fits.1.1, λ h. absurd (let z : ⊥ = omega arith in z))))
 
 pub loop-second-preserved-then-tenths_in-last : goal.loop-second-preserved-then-tenths_in-last
 loop-second-preserved-then-tenths_in-last c =
-    let l = c in
-    let start = l in
     let tenths = c.tenths_in in
-    let last = l.last_passing-last in (
+    let last = c.last_passing-last in (
       omega arith,
       (
-        l.loop-second.invariant.1.0,
+        c.loop-second.invariant.1.0,
         (
-          decided start.args.p _ tenths.result last.result start.requires.section_fits.1.1 tenths.ensures last.ensures
+          decided c.args.p _ tenths.result last.result c.requires.section_fits.1.1 tenths.ensures last.ensures
               ∙ le-leb tenths.result last.result c.if-tenths_in-last.true,
-          l.loop-second.invariant.1.1.1,
+          c.loop-second.invariant.1.1.1,
         ),
       ),
     )
 
 pub loop-second-preserved : goal.loop-second-preserved
 loop-second-preserved c =
-    let l = c in
-    let start = l in
     let tenths = c.tenths_in in
-    let last = l.last_passing-last in (
+    let last = c.last_passing-last in (
       omega arith,
       (
         omega arith,
         (
-          l.loop-second.invariant.1.1.0,
-          λ _. decided start.args.p _ tenths.result last.result start.requires.section_fits.1.1 tenths.ensures last.ensures
+          c.loop-second.invariant.1.1.0,
+          λ _. decided c.args.p _ tenths.result last.result c.requires.section_fits.1.1 tenths.ensures last.ensures
               ∙ lt-leb tenths.result last.result (omega arith),
         ),
       ),
@@ -61,10 +56,9 @@ loop-second-preserved c =
 pub returns : goal.returns
 unfolding load_seconds
 returns c =
-    let l = c in
-    let p = l.args.p in
-    let i = l.loop-second.invariant in
-    let next : suc l.loop-second.second ≡ l.loop-second.beyond = omega arith in
+    let p = c.args.p in
+    let i = c.loop-second.invariant in
+    let next : suc c.loop-second.second ≡ c.loop-second.beyond = omega arith in
     sym
-    (whole_found p 60 (omega arith) l.loop-second.second (omega arith) i.1.1.0
+    (whole_found p 60 (omega arith) c.loop-second.second (omega arith) i.1.1.0
     (λ less. ap (λ (k : ℕ). time_test p k 60) next ∙ i.1.1.1 (omega arith)))

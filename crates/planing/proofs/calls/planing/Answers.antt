@@ -11,5 +11,4 @@ returns-then-n-ne0 c = turned_back Refused _ c.panel_refusal-n.ensures c.if-n-ne
 pub returns : goal.returns
 unfolding planing_answer
 returns c =
-    let taken = c in
-    let_through Refused taken.panel_refusal-n.ensures taken.if-n-ne0.false c.least_cut.ensures
+    let_through Refused c.panel_refusal-n.ensures c.if-n-ne0.false c.least_cut.ensures

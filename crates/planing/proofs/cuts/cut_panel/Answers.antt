@@ -12,10 +12,9 @@ use Rattle.planing.proofs.cuts.cut_panel.Goals as goal
 
 pub returns : goal.returns
 returns c =
-    let start = c in
-    let p = start.args.p in
-    let at = start.args.at in
-    let tenths = start.args.tenths in
+    let p = c.args.p in
+    let at = c.args.at in
+    let tenths = c.args.tenths in
     let nine : length p.thicknesses ≡ 9 = search rules in
-    let cut = cut_arrays p.directions p.thicknesses p.count at tenths start.requires.at_lt_count.0 (omega (arith, nine, start.requires.at_lt_count.0, start.requires.at_lt_count.1)) in
+    let cut = cut_arrays p.directions p.thicknesses p.count at tenths c.requires.at_lt_count.0 (omega (arith, nine, c.requires.at_lt_count.0, c.requires.at_lt_count.1)) in
     ap (with_lamellae p) (cut ∙ sym (lamellae_with p (thinned (suc at) tenths (lamellae p))))

@@ -4,5 +4,4 @@ use Rattle.planing.proofs.cuts.is_allowed.Goals as goal
 
 pub returns : goal.returns
 returns c =
-    let start = c in
-    allowed_at start.args.p start.args.at start.args.tenths start.requires.at_lt_count.0 start.requires.tenths_nonzero.0
+    allowed_at c.args.p c.args.at c.args.tenths c.requires.at_lt_count.0 c.requires.tenths_nonzero.0

@@ -7,24 +7,21 @@ use Rattle.planing.proofs.cuts.is_lowered.Goals as goal
 
 pub returns-then-not-lasts : goal.returns-then-not-lasts
 returns-then-not-lasts c =
-    let start = c in
     let lasting = c.lasts in
     sym
-    (fails_lowered start.args.minutes start.args.q start.requires.minutes_le_last_minute.0 start.requires.minutes_le_last_minute.1 start.requires.q_value
+    (fails_lowered c.args.minutes c.args.q c.requires.minutes_le_last_minute.0 c.requires.minutes_le_last_minute.1 c.requires.q_value
     (sym lasting.ensures ∙ c.if-not-lasts.true))
 
 pub ei_minute_of-requires : goal.ei_minute_of-requires
 ei_minute_of-requires c =
-    let start = c in
     let lasting = c.lasts in
-    lasting_accepted start.args.minutes start.args.q start.requires.minutes_le_last_minute.0 start.requires.minutes_le_last_minute.1 start.requires.q_value
+    lasting_accepted c.args.minutes c.args.q c.requires.minutes_le_last_minute.0 c.requires.minutes_le_last_minute.1 c.requires.q_value
     (sym lasting.ensures ∙ c.if-not-lasts.false)
 
 pub returns : goal.returns
 returns c =
-    let start = c in
     let lasting = c.lasts in
-    ap (λ (ei : ℕ). ltb ei start.args.minutes) c.ei_minute_of.ensures.0
+    ap (λ (ei : ℕ). ltb ei c.args.minutes) c.ei_minute_of.ensures.0
     ∙ sym
-    (lasting_by_ei start.args.minutes start.args.q start.requires.minutes_le_last_minute.0 start.requires.minutes_le_last_minute.1 start.requires.q_value
+    (lasting_by_ei c.args.minutes c.args.q c.requires.minutes_le_last_minute.0 c.requires.minutes_le_last_minute.1 c.requires.q_value
     (sym lasting.ensures ∙ c.if-not-lasts.false))

@@ -31,45 +31,41 @@ is_allowed-requires c =
 
 pub returns-then-not-is_allowed : goal.returns-then-not-is_allowed
 returns-then-not-is_allowed c =
-    let start = c in
     let one = c.is_allowed in
-    let p = start.args.p in
+    let p = c.args.p in
     sym
-    (ap (λ (b : Bool). b && lowered (rei_grade p).minutes (cut_panel p (cut_of start.args.at start.args.tenths)))
+    (ap (λ (b : Bool). b && lowered (rei_grade p).minutes (cut_panel p (cut_of c.args.at c.args.tenths)))
     (sym one.ensures ∙ c.if-not-is_allowed.true))
 
 pub cut_panel-requires : goal.cut_panel-requires
 cut_panel-requires c =
-    let start = c in
     let one = c.is_allowed in
-    let cut = cut_of start.args.at start.args.tenths in
-    let kept = (allowed_means start.args.p cut (sym one.ensures ∙ c.if-not-is_allowed.false)).kept in
-    let at = start.requires.at_lt_count.0 in
+    let cut = cut_of c.args.at c.args.tenths in
+    let kept = (allowed_means c.args.p cut (sym one.ensures ∙ c.if-not-is_allowed.false)).kept in
+    let at = c.requires.at_lt_count.0 in
     record {
-      at_lt_count = (at, (accepted_fits start.args.p start.requires.p_value.0).count);
-      tenths_bound = omega (arith, kept, thickness_here start.args.p start.args.at at);
+      at_lt_count = (at, (accepted_fits c.args.p c.requires.p_value.0).count);
+      tenths_bound = omega (arith, kept, thickness_here c.args.p c.args.at at);
     }
 
 pub is_lowered-requires : goal.is_lowered-requires
 is_lowered-requires c =
-    let start = c in
-    let p = start.args.p in
+    let p = c.args.p in
     let one = c.is_allowed in
-    let cut = cut_of start.args.at start.args.tenths in
+    let cut = cut_of c.args.at c.args.tenths in
     let kept = sym one.ensures ∙ c.if-not-is_allowed.false in record {
-      minutes_le_last_minute = subst (λ (g : Grade). (g.minutes ≤ last_minute) × ((grade_of g.minutes).minutes ≡ g.minutes)) (sym start.requires.p_value.1) (rei_is_grade p);
-      q_value = to12_unused c.cut_panel.result (cut_panel p cut) c.cut_panel.ensures ∙ cut_to12 p cut start.requires.p_value.0 kept;
+      minutes_le_last_minute = subst (λ (g : Grade). (g.minutes ≤ last_minute) × ((grade_of g.minutes).minutes ≡ g.minutes)) (sym c.requires.p_value.1) (rei_is_grade p);
+      q_value = to12_unused c.cut_panel.result (cut_panel p cut) c.cut_panel.ensures ∙ cut_to12 p cut c.requires.p_value.0 kept;
     }
 
 pub returns : goal.returns
 returns c =
-    let start = c in
-    let p = start.args.p in
+    let p = c.args.p in
     let made = c.cut_panel in
     let one = c.is_allowed in
-    let cut = cut_of start.args.at start.args.tenths in
+    let cut = cut_of c.args.at c.args.tenths in
     let kept : allowed p cut ≡ true = sym one.ensures ∙ c.if-not-is_allowed.false in
     c.is_lowered.ensures
     ∙ lowered_same _ made.result (cut_panel p cut) made.ensures
-    ∙ ap (λ (g : Grade). lowered g.minutes (cut_panel p cut)) start.requires.p_value.1
+    ∙ ap (λ (g : Grade). lowered g.minutes (cut_panel p cut)) c.requires.p_value.1
     ∙ sym (ap (λ (b : Bool). b && lowered (rei_grade p).minutes (cut_panel p cut)) kept)

@@ -19,8 +19,7 @@ tested p tenths behind at b e says =
 
 pub index_behind-requires : goal.index_behind-requires
 index_behind-requires c =
-    let start = c in
-    (c.loop-behind-test.true, (accepted_fits start.args.p start.requires.p_value.0).count)
+    (c.loop-behind-test.true, (accepted_fits c.args.p c.requires.p_value.0).count)
 
 pub returns-then-is_lowering : goal.returns-then-is_lowering
 unfolding first_behind
@@ -28,9 +27,8 @@ returns-then-is_lowering c =
     let low = c.is_lowering in
     let at = c.index_behind in
     let l = c.loop-behind in
-    let start = c in
-    let p = start.args.p in
-    let tenths = start.args.tenths in
+    let p = c.args.p in
+    let tenths = c.args.tenths in
     sym
     (least_is (λ (k : ℕ). lowering p (cut_behind p tenths k)) p.count l.behind l.invariant.0 l.invariant.1
     (λ _. sym (tested p tenths l.behind at.result low.result at.ensures.0 low.ensures) ∙ c.if-is_lowering.true))
@@ -39,9 +37,8 @@ pub returns : goal.returns
 unfolding first_behind
 returns c =
     let l = c.loop-behind in
-    let start = c in
-    let p = start.args.p in
+    let p = c.args.p in
     let end : l.behind ≡ p.count = omega (arith, l.invariant.0) in
     sym
-    (least_is (λ (k : ℕ). lowering p (cut_behind p start.args.tenths k)) p.count p.count (le_refl p.count)
+    (least_is (λ (k : ℕ). lowering p (cut_behind p c.args.tenths k)) p.count p.count (le_refl p.count)
     (λ k u. l.invariant.1 k (omega arith)) (λ u. absurd (let z : ⊥ = omega arith in z)))

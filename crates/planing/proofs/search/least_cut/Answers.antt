@@ -20,8 +20,7 @@ loop-tenths-init c =
 
 pub index_behind-requires : goal.index_behind-requires
 index_behind-requires c =
-    let start = c in
-    (c.if-behind-p.true, (accepted_fits start.args.p start.requires.0).count)
+    (c.if-behind-p.true, (accepted_fits c.args.p c.requires.0).count)
 
 pub overflow_cast-result : goal.overflow_cast-result
 overflow_cast-result c = omega (arith, index_most (goal.at.overflow_cast-result c).After-index_behind)

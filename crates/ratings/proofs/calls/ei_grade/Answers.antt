@@ -13,6 +13,5 @@ returns-then-n-ne0 c = turned_back Refused _ c.panel_refusal-n.ensures c.if-n-ne
 pub returns : goal.returns
 unfolding graded
 returns c =
-    let taken = c in
-    let_through Refused taken.panel_refusal-n.ensures taken.if-n-ne0.false
+    let_through Refused c.panel_refusal-n.ensures c.if-n-ne0.false
     (ap Of (c.of.ensures ∙ ap grade_of c.ei_minute_of-ei.ensures.0))

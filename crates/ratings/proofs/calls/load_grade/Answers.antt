@@ -18,6 +18,5 @@ of-requires c = subst (λ (m : ℕ). m ≤ 360) (sym c.load_minute_of-load.ensur
 pub returns : goal.returns
 unfolding graded
 returns c =
-    let taken = c in
-    let_through Refused taken.panel_refusal-n.ensures taken.if-n-ne0.false
+    let_through Refused c.panel_refusal-n.ensures c.if-n-ne0.false
     (ap Of (c.of.ensures ∙ ap grade_of c.load_minute_of-load.ensures))

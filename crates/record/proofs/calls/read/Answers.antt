@@ -17,17 +17,13 @@ table f p = refusal (table_lines f p)
 pub returns-then-n-ne0 : goal.returns-then-n-ne0
 unfolding decode record_refusal
 returns-then-n-ne0 c =
-    let n = c in
-    let read = n in
-    ap (reading n.table_refusal-n.result) c.blank_panel.ensures
+    ap (reading c.table_refusal-n.result) c.blank_panel.ensures
     ∙ turned_back (λ (k : ℕ). reading k blank) _
-    (n.table_refusal-n.ensures ∙ ap₂ table n.byte_faults.ensures read.panel_of-p.ensures) c.if-n-ne0.true
+    (c.table_refusal-n.ensures ∙ ap₂ table c.byte_faults.ensures c.panel_of-p.ensures) c.if-n-ne0.true
 
 pub returns : goal.returns
 unfolding decode record_refusal
 returns c =
-    let n = c in
-    let read = n in
     let_through (λ (k : ℕ). reading k blank)
-    (n.table_refusal-n.ensures ∙ ap₂ table n.byte_faults.ensures read.panel_of-p.ensures) c.if-n-ne0.false
-    (ap (reading 0) read.panel_of-p.ensures)
+    (c.table_refusal-n.ensures ∙ ap₂ table c.byte_faults.ensures c.panel_of-p.ensures) c.if-n-ne0.false
+    (ap (reading 0) c.panel_of-p.ensures)

@@ -24,31 +24,21 @@ record_length-length-requires c =
 
 pub returns-then-out-length : goal.returns-then-out-length
 returns-then-out-length c =
-    let taken = c in
-    let r = taken in
-    let a = r.args in
+    let a = c.args in
     let both = answers_refused a.p a.out.now 14
-    (write_short a.p a.out.now (sym r.panel_refusal-n.ensures ∙ taken.if-n-ne0.false)
+    (write_short a.p a.out.now (sym c.panel_refusal-n.ensures ∙ c.if-n-ne0.false)
     (rw c.record_length-length.ensures.0 at c.if-out-length.true)) (eqb-false 14 0 refl) in
     record { value = both.0; out_after = both.1 }
 
 pub put_record-requires : goal.put_record-requires
-put_record-requires c =
-    let len = c in
-    let taken = len in
-    let r = taken in (
-      (accepted_fits r.args.p (sym r.panel_refusal-n.ensures ∙ taken.if-n-ne0.false)).count,
-      rw len.record_length-length.ensures.0 at c.if-out-length.false,
-    )
+put_record-requires c = (
+  (accepted_fits c.args.p (sym c.panel_refusal-n.ensures ∙ c.if-n-ne0.false)).count,
+  rw c.record_length-length.ensures.0 at c.if-out-length.false,
+)
 
 pub returns : goal.returns
 returns c =
-    let put = c in
-    let fits = put in
-    let len = fits in
-    let taken = len in
-    let r = taken in
-    let a = r.args in
-    let both = answers_written a.p a.out.now put.put_record.new.out len.record_length-length.result len.record_length-length.ensures.0
-    (sym r.panel_refusal-n.ensures ∙ taken.if-n-ne0.false) (rw len.record_length-length.ensures.0 at fits.if-out-length.false) put.put_record.ensures in
+    let a = c.args in
+    let both = answers_written a.p a.out.now c.put_record.new.out c.record_length-length.result c.record_length-length.ensures.0
+    (sym c.panel_refusal-n.ensures ∙ c.if-n-ne0.false) (rw c.record_length-length.ensures.0 at c.if-out-length.false) c.put_record.ensures in
     record { value = both.0; out_after = both.1 }

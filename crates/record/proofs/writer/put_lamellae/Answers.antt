@@ -21,20 +21,19 @@ pub loop-i-preserved : goal.loop-i-preserved
 unfolding lamellae_of
 loop-i-preserved c =
     let put = c.put_lamella in
-    let l = c in
-    let args = l.args in
+    let args = c.args in
     let gs = args.directions in
     let ts = args.thicknesses in
-    let i = l.loop-i.i in
+    let i = c.loop-i.i in
     let xs = lamellae_of gs ts i in
     let x = lamella (get_or gs i 0) (get_or ts i 0) in
     let e : args.at + lamella_length * i ≡ args.at + length (lamella_bytes xs) = omega (arith, length_lamella_bytes xs, length_lamellae_of gs ts i) in (
       omega arith,
       (
-        put.auto.out ∙ l.loop-i.invariant.1.0,
-        then_put args.out.now l.loop-i.out put.new.out args.at (lamella_bytes xs) (args.at + lamella_length * i)
+        put.auto.out ∙ c.loop-i.invariant.1.0,
+        then_put args.out.now c.loop-i.out put.new.out args.at (lamella_bytes xs) (args.at + lamella_length * i)
             (join lamella_widths (lamella_numbers x))
-            l.loop-i.invariant.1.1 e put.ensures
+            c.loop-i.invariant.1.1 e put.ensures
             ∙ ap (sets args.out.now args.at) (sym (lamella_bytes_more xs x)
             ∙ ap (λ (k : ℕ). lamella_bytes (lamellae_of gs ts k)) (sym (add-one i))),
       ),

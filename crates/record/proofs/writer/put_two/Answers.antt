@@ -11,11 +11,9 @@ use Rattle.record.proofs.writer.put_two.Goals as goal
 pub returns : goal.returns
 unfolding board_bytes
 returns c =
-    let c6 = c in
-    let c9 = c6 in
-    let l = c9.args.out.now in
-    let at = c9.args.at in
-    let v₁ : List ℕ = join board_widths (board_numbers c9.args.outer) in
-    then_put l c6.put_board.new.out c.put_board-2.new.out at v₁ (at + board_length)
-    (join board_widths (board_numbers c9.args.inner))
-    c6.put_board.ensures refl c.put_board-2.ensures
+    let l = c.args.out.now in
+    let at = c.args.at in
+    let v₁ : List ℕ = join board_widths (board_numbers c.args.outer) in
+    then_put l c.put_board.new.out c.put_board-2.new.out at v₁ (at + board_length)
+    (join board_widths (board_numbers c.args.inner))
+    c.put_board.ensures refl c.put_board-2.ensures

@@ -7,18 +7,16 @@ use Rattle.section.proofs.carry.begin_next.Goals as goal
 
 pub first_along-requires : goal.first_along-requires
 first_along-requires c =
-    let start = c in
-    let fit = start.requires.lamellae_fit.0 in
-    let there = next_there _ _ _ start.args.c start.requires.lamellae_fit.1 start.requires.end_le_depth.0 start.requires.end_le_depth.1 in record {
+    let fit = c.requires.lamellae_fit.0 in
+    let there = next_there _ _ _ c.args.c c.requires.lamellae_fit.1 c.requires.end_le_depth.0 c.requires.end_le_depth.1 in record {
       place_le_count = (omega arith, (fit.directions_hold, fit.thicknesses_hold));
-      count_bound = next_fits _ _ _ start.args.c _ fit start.requires.lamellae_fit.1 there (ap (λ x. start.args.c.end + x) c.widen.ensures.0);
+      count_bound = next_fits _ _ _ c.args.c _ fit c.requires.lamellae_fit.1 there (ap (λ x. c.args.c.end + x) c.widen.ensures.0);
     }
 
 pub returns : goal.returns
 returns c =
-    let start = c in
-    let there = next_there _ _ _ start.args.c start.requires.lamellae_fit.1 start.requires.end_le_depth.0 start.requires.end_le_depth.1 in
+    let there = next_there _ _ _ c.args.c c.requires.lamellae_fit.1 c.requires.end_le_depth.0 c.requires.end_le_depth.1 in
     let next =
-    carried_next _ _ _ start.args.c _ c.first_along.result start.requires.lamellae_fit.0 start.requires.lamellae_fit.1 start.requires.end_le_depth.0 there
-    (ap (λ x. start.args.c.end + x) c.widen.ensures.0) c.first_along.ensures in
+    carried_next _ _ _ c.args.c _ c.first_along.result c.requires.lamellae_fit.0 c.requires.lamellae_fit.1 c.requires.end_le_depth.0 there
+    (ap (λ x. c.args.c.end + x) c.widen.ensures.0) c.first_along.ensures in
     (next.0, (refl, next.1))

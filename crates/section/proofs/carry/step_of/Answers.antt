@@ -23,9 +23,8 @@ returns-then-not-s-end c =
 
 pub take_tenth-requires : goal.take_tenth-requires
 take_tenth-requires c =
-    let start = c in
-    let a = start.args in
-    let h = held a.s a.end start.requires c.if-not-s-end.false in
+    let a = c.args in
+    let h = held a.s a.end c.requires c.if-not-s-end.false in
     let tenth = holds_tenth a.s a.end h.1.1 h.1.0 in
     record {
       a_bound = tenth.within;
@@ -34,16 +33,14 @@ take_tenth-requires c =
 
 pub returns-then-is_enough : goal.returns-then-is_enough
 returns-then-is_enough c =
-    let start = c in
-    let a = start.args in
-    let h = held a.s a.end start.requires c.if-not-s-end.false in
+    let a = c.args in
+    let h = held a.s a.end c.requires c.if-not-s-end.false in
     c.take_tenth.ensures
     ∙ sym (step_moves a.s a.end a.next h.0 h.1.0 (leb-true _ _ (sym c.is_enough.ensures ∙ c.if-is_enough.true)))
 
 pub returns-else-is_enough : goal.returns-else-is_enough
 returns-else-is_enough c =
-    let start = c in
-    let a = start.args in
-    let h = held a.s a.end start.requires c.if-not-s-end.false in
+    let a = c.args in
+    let h = held a.s a.end c.requires c.if-not-s-end.false in
     c.take_off.ensures
     ∙ sym (step_drops a.s a.end a.next h.0 h.1.0 (leb-false _ _ (sym c.is_enough.ensures ∙ c.if-is_enough.false)))

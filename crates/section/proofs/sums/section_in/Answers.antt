@@ -1,4 +1,4 @@
--- `section::sums::section_in` meets its contract. The loop's invariant: s and top are the sums of the first i lamellae and where
+-- `section::sums::section_in` meets its contract: s and top are the sums of the first i lamellae and where these end.
 use native.Mathlib.Omega.{arith}
 use borrow.Author.Rules.{rules}
 use Rattle.section.proofs.Growing.{summed_start, summed_more, summed_fits}
@@ -9,8 +9,7 @@ loop-i-init c = (omega arith, summed_start _ _ _)
 
 pub with_lamella-s-requires : goal.with_lamella-s-requires
 with_lamella-s-requires c =
-    let l = c in
-    let fits = summed_fits _ _ _ _ _ _ _ l.loop-i.invariant.1 (omega arith) l.requires.count_bound in
+    let fits = summed_fits _ _ _ _ _ _ _ c.loop-i.invariant.1 (omega arith) c.requires.count_bound in
     record {
       section_bounds = fits.0;
       depth_bound = (search rules, fits.1);
@@ -18,10 +17,8 @@ with_lamella-s-requires c =
 
 pub overflow_add-top : goal.overflow_add-top
 overflow_add-top c =
-    let l = c in
-    omega (arith, (summed_fits _ _ _ _ _ _ _ l.loop-i.invariant.1 (search rules) l.requires.count_bound).1)
+    omega (arith, (summed_fits _ _ _ _ _ _ _ c.loop-i.invariant.1 (search rules) c.requires.count_bound).1)
 
 pub loop-i-preserved : goal.loop-i-preserved
 loop-i-preserved c =
-    let l = c in
-    (omega arith, summed_more _ _ _ _ _ _ _ _ l.loop-i.invariant.1 c.with_lamella-s.ensures (omega arith))
+    (omega arith, summed_more _ _ _ _ _ _ _ _ c.loop-i.invariant.1 c.with_lamella-s.ensures (omega arith))

@@ -6,12 +6,11 @@ use Rattle.section.proofs.sums.with_part.Goals as goal
 pub returns : goal.returns
 unfolding with_part
 returns c =
-    let c4 = c in
-    let a = c4.args in
+    let a = c.args in
     λ i.
     record {
       n = a.s.n + (a.b - a.a);
-      p = a.s.p + c4.squares.ensures.0 i;
+      p = a.s.p + c.squares.ensures.0 i;
       q = a.s.q + c.cubes.ensures.0 i;
       lo = c.where_none.ensures i;
       hi = a.b;

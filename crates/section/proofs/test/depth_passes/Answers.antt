@@ -6,10 +6,9 @@ use Rattle.section.proofs.test.depth_passes.Goals as goal
 
 pub section_passes-requires : goal.section_passes-requires
 section_passes-requires c =
-    let f = c in
-    let a = f.args in
-    let fits = f.requires in record {
-      factor_bound = f.factor_of.ensures.1;
+    let a = c.args in
+    let fits = c.requires in record {
+      factor_bound = c.factor_of.ensures.1;
       moment_bound = fits.moment;
       strength_bound = fits.strength;
       section_bounds = (
