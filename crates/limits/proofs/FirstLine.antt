@@ -8,7 +8,28 @@ use native.Mathlib.Omega.{arith}
 use lib.Dec.{T, eqb, ltb, ltb→lt}
 use Rattle.numbers.specs.Choice.{pick}
 use Rattle.numbers.proofs.Booleans.{IsTrue-left, IsTrue-right}
-use Rattle.limits.specs.Lines.{Line, refusal, cause_of, NoneFits, numbered, answer, First}
+use Rattle.std.specs.Prelude.{Result, Ok, Err}
+use Rattle.limits.specs.declared.refusal.Refusal.{Refusal}
+use Rattle.limits.specs.declared.refusal.Refusal.TheVariants.{
+  Length,
+  Version,
+  Face,
+  BondOrGap,
+  Rate,
+  Load,
+  BoardCount,
+  BoardTypes,
+  Boards,
+  FailureTime,
+  LamellaCount,
+  Lamellae,
+  NoneAlong,
+  Section,
+  Space,
+  Minute,
+}
+use Rattle.limits.specs.Numbers.{line_number, by_number, refused_if}
+use Rattle.limits.specs.Lines.{Line, line, refusal, cause_of, NoneFits, numbered, answer, unless_refused, checked, First}
 
 pick_none : (c : Bool) (n below : ℕ) → T (ltb 0 n) → pick c n below ≡ 0 → (c ≡ false) × (below ≡ 0)
 pick_none true n below t e = absurd (let h : 0 < n = ltb→lt 0 n t in let z : ⊥ = omega arith in z)
@@ -120,3 +141,90 @@ turned_back {m} f value e ne = ap f e ∙ refused m f value (λ z. ne (e ∙ z))
 -- and one that is let through answers its value
 pub let_through {ℓ} : {A : Type ℓ} {n m : ℕ} {x value : A} (f : ℕ → A) → n ≡ m → n ≡ 0 → x ≡ value → x ≡ answer m f value
 let_through {m} {value} f e z e' = e' ∙ answered m f value (sym e ∙ z)
+
+-- Of a call that answers its value or the refusal's number
+
+-- the refusal's number, 0 for a value
+number_in : {A : Type 0} → Result A ℕ → ℕ
+number_in (Ok value) = 0
+number_in (Err n) = n
+
+value_or : {A : Type 0} → A → Result A ℕ → A
+value_or other (Ok value) = value
+value_or other (Err n) = other
+
+-- a value is answered where nothing is refused
+pub accepted_with : {A : Type 0} {n : ℕ} {x value : A} → Ok x ≡ unless_refused n value → (n ≡ 0) × (x ≡ value)
+unfolding value_or number_in
+accepted_with {n = zero} {x} e = (refl, ap (value_or x) e)
+accepted_with {n = suc n} e = absurd (let z : 0 ≡ suc n = ap number_in e in let no : ⊥ = omega arith in no)
+
+-- and the refusal's number where something is
+pub refused_with : {A : Type 0} {n k : ℕ} (value : A) → Err k ≡ unless_refused n value → (k ≡ n) × (n ≡ 0 → ⊥)
+unfolding number_in
+refused_with {n = zero} {k} value e = absurd (no k (sym e))
+  where
+    no : (k : ℕ) → Ok value ≡ Err k → ⊥
+    no k e = cc
+refused_with {n = suc n} value e = (ap number_in e, λ z. let no : ⊥ = omega arith in no)
+
+-- what a call hands on with `?`: a refusal is answered as the check answers it
+pub passed_on : {A B : Type 0} {k : ℕ} (n : ℕ) (value : A) (other : Result B ℕ) → Err k ≡ unless_refused n value → Err k ≡ answer n Err other
+passed_on n value other e = let h = refused_with value e in ap Err h.0 ∙ refused n Err other h.1
+
+-- and where the check accepts, the rest of the call decides
+pub goes_on : {A B : Type 0} {x : A} {y other : Result B ℕ} (n : ℕ) (value : A) → Ok x ≡ unless_refused n value → y ≡ other → y ≡ answer n Err other
+goes_on {y} {other} n value e e' = rw (accepted_with e).0 e'
+
+-- where a table refuses, so does it with further lines below, and the call hands it on; where it does not, they decide
+pub refused_above :
+    {A B : Type 0} {k : ℕ} (table further : List Line) (value : A) (other : Result B ℕ) → Err k ≡ unless_refused (refusal table) value
+    → Err k ≡ answer (refusal (table ++ further)) Err other
+refused_above {k} table further value other e =
+    let h = refused_with value e in
+    let some : k ≡ 0 → ⊥ = λ z. h.1 (sym h.0 ∙ z) in
+    turned_back Err other (turned_above table further h.0 some) some
+
+pub checked_below : (table further : List Line) → T (numbered table) → refusal table ≡ 0 → checked further ≡ checked (table ++ further)
+checked_below table further t z = ap (λ (n : ℕ). unless_refused n tt) (sym (none_above table further (first_none table t z)))
+
+-- every refusal has a number other than 0
+number_told : (r : Refusal) → ◌≡◌ {A = Result Unit ℕ} (Err (line_number r)) (unless_refused (line_number r) tt)
+number_told =
+    elim [
+      | Length ↦ refl
+      | Version ↦ refl
+      | Face ↦ refl
+      | BondOrGap ↦ refl
+      | Rate ↦ refl
+      | Load ↦ refl
+      | BoardCount ↦ refl
+      | BoardTypes ↦ refl
+      | Boards ↦ refl
+      | FailureTime ↦ refl
+      | LamellaCount ↦ refl
+      | Lamellae ↦ refl
+      | NoneAlong ↦ refl
+      | Section ↦ refl
+      | Space ↦ refl
+      | Minute ↦ refl
+    ]
+
+line_alone : (fits : Bool) (r : Refusal) → by_number (refused_if fits r) ≡ checked (line (line_number r) fits ∷ [])
+line_alone true r = number_told r
+line_alone false r = refl
+
+-- a line of the call below a table that does not refuse
+pub call_line :
+    (table : List Line) → T (numbered table) → refusal table ≡ 0 → (fits : Bool) (r : Refusal) {x : Result Unit Refusal} → x ≡ refused_if fits r
+    → by_number x ≡ checked (table ++ (line (line_number r) fits ∷ []))
+call_line table t z fits r e = ap by_number e ∙ line_alone fits r ∙ checked_below table (line (line_number r) fits ∷ []) t z
+
+-- a line that does not refuse does not fit
+pub not_fitting : (fits : Bool) (refusal : Refusal) → Ok tt ≡ refused_if fits refusal → fits ≡ false
+not_fitting true refusal e = cc
+not_fitting false refusal e = refl
+
+-- what is worked out of what was accepted is what the call answers
+pub worked_out : {A B : Type 0} (n : ℕ) (f : A → B) (value : A) {x : A} {y : B} → Ok x ≡ unless_refused n value → y ≡ f x → Ok y ≡ unless_refused n (f value)
+worked_out n f value e e' = goes_on n value e (ap Ok (e' ∙ ap f (accepted_with e).1))

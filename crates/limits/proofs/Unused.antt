@@ -8,8 +8,7 @@ use Rattle.panel.specs.Faces.{shown}
 use Rattle.panel.proofs.Used.{lamellae_cleared, count_cleared, cleared_same, unused}
 use Rattle.panel.proofs.Turning.{shown_same}
 use Rattle.section.specs.Tests.{section_at, depth_passes}
-use Rattle.limits.specs.declared.SectionAnswer.TheVariants.{At, Refused}
-use Rattle.limits.specs.Lines.{Line, refusal, down_to, answer}
+use Rattle.limits.specs.Lines.{Line, refusal, down_to, unless_refused}
 use Rattle.limits.specs.Refusals.{panel_lines, panel_refusal, refusal_to12}
 use Rattle.limits.specs.Answers.{section_answer, compared, build_answer}
 
@@ -35,7 +34,7 @@ pub section_unused : (p q : Panel) → SameUsed p q → (depth : ℕ) → sectio
 unfolding section_answer
 section_unused p q h depth =
     let fire = shown_same p q h in
-    λ i. answer (refusal_unused p q h i) Refused (At (section_same (shown p) (shown q) fire depth i) (passes_same (shown p) (shown q) fire depth i))
+    λ i. unless_refused (refusal_unused p q h i) (section_same (shown p) (shown q) fire depth i, passes_same (shown p) (shown q) fire depth i)
 
 pub build_unused : (a b p q : Panel) → SameUsed a p → SameUsed b q → build_answer a b ≡ build_answer p q
 unfolding compared

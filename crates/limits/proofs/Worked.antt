@@ -9,7 +9,7 @@ use Rattle.section.specs.Sections.{counted_from, total, lowest, highest, section
 use Rattle.section.specs.Tests.{carries}
 use Rattle.limits.specs.Causes.{some}
 use Rattle.limits.specs.Refusals.{panel_refusal, refusal_to12}
-use Rattle.limits.specs.declared.BuildAnswer.TheVariants.{Same, Different}
+use Rattle.std.specs.Prelude.{true, false, Ok}
 use Rattle.limits.specs.Answers.{compared, build_answer}
 
 pub g_accepted : panel_refusal (g 43056) ≡ 0
@@ -22,21 +22,21 @@ unfolding panel_refusal refusal_to12 some lamellae_of thickness counted_from tot
 g_fails_at_zero = (refl, refl)
 
 -- under another moment: the same build
-pub g_same : build_answer (g 3000) (g 0) ≡ Same
+pub g_same : build_answer (g 3000) (g 0) ≡ Ok true
 unfolding compared same_lamellae panel_refusal some lamellae_of thickness counted_from total lowest highest section_of carries
 g_same = refl
 
 -- "although one panel had falling bonds"
-pub g_different : build_answer (g 3000) (g_falling 3000) ≡ Different
+pub g_different : build_answer (g 3000) (g_falling 3000) ≡ Ok false
 unfolding compared same_lamellae panel_refusal some lamellae_of thickness counted_from total lowest highest section_of carries
 g_different = refl
 
 -- the same panel in both versions: the same build
-pub g_versions : build_answer (g 3000) (on_face 0 (g 3000)) ≡ Same
+pub g_versions : build_answer (g 3000) (on_face 0 (g 3000)) ≡ Ok true
 unfolding compared same_lamellae panel_refusal some lamellae_of thickness counted_from total lowest highest section_of carries
 g_versions = refl
 
 -- G, which is symmetrical, turned and with another face: another build
-pub g_turned : build_answer (on_face 0 (g 3000)) (on_face 1 (turned (g 3000))) ≡ Different
+pub g_turned : build_answer (on_face 0 (g 3000)) (on_face 1 (turned (g 3000))) ≡ Ok false
 unfolding compared same_lamellae panel_refusal some lamellae_of thickness counted_from total lowest highest section_of carries
 g_turned = refl

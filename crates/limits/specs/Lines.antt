@@ -1,5 +1,5 @@
 -- Document 01, "Where a record is turned back": a table of lines, "Checked from top to bottom".
-use Rattle.std.specs.Prelude.{ℕ, zero, suc, List, [], ◌∷◌, ◌++◌, Bool, true, false, cond, ◌&&◌, ◌≡◌, eqb, ltb}
+use Rattle.std.specs.Prelude.{ℕ, zero, suc, List, [], ◌∷◌, ◌++◌, Bool, true, false, cond, ◌&&◌, ◌≡◌, eqb, ltb, Result, Ok, Err}
 use Rattle.numbers.specs.Choice.{pick}
 
 -- a line of the table: its number, and whether its cause fits
@@ -49,7 +49,15 @@ abbrev pub numbered : List Line → Bool
 numbered [] = true
 numbered (l ∷ ls) = ltb 0 l.number && numbered ls
 
--- what a call answers: its value where the refusal is 0, else what carries the refusal's number
+-- what stands for a table, or for what a call answers by it: the value where nothing is refused, else what carries the refusal's number
 abbrev pub answer {ℓ} : {A : Type ℓ} → ℕ → (ℕ → A) → A → A
 answer zero refused value = value
 answer (suc n) refused value = refused (suc n)
+
+-- what a call answers: its value, or the number of the refusal
+abbrev pub unless_refused : {A : Type 0} → ℕ → A → Result A ℕ
+unless_refused n value = answer n Err (Ok value)
+
+-- whether a table refuses
+abbrev pub checked : List Line → Result Unit ℕ
+checked ls = unless_refused (refusal ls) tt

@@ -5,9 +5,9 @@
 mod builds;
 pub mod calls;
 pub mod causes;
+pub mod check;
+pub mod refusal;
 pub mod table;
-
-use section::Section;
 
 // The last minute that a call may be asked for, and that a card gives.
 pub const LAST_MINUTE: u16 = 360;
@@ -20,17 +20,9 @@ pub struct ByteFaults {
     pub lamella_count: bool,
 }
 
-// The section at a depth with whether the depth passes, or the refusal's number.
-#[derive(Clone, Copy)]
-pub enum SectionAnswer {
-    At(Section, bool),
-    Refused(u8),
-}
-
-// Whether two panels are the same build, or the refusal's number.
-#[derive(Clone, Copy)]
-pub enum BuildAnswer {
-    Same,
-    Different,
-    Refused(u8),
-}
+// A panel alone has no bytes.
+const NO_BYTES: ByteFaults = ByteFaults {
+    length: false,
+    board_count: false,
+    lamella_count: false,
+};

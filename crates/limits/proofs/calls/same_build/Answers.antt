@@ -1,32 +1,44 @@
--- `limits::calls::same_build` meets its contract: the panels are compared where neither is turned back, the first before the second.
+-- `limits::calls::same_build` meets its contract: the panels are compared where neither is refused, the first before the second.
 -- Assumes nothing.
+use Rattle.std.proofs.Common.{Ok, ap, ◌∙◌}
+use Rattle.std.proofs.lemmas.Result.{err_from_is_err_and}
 use Rattle.limits.proofs.Accepted.{accepted_fits}
-use Rattle.limits.proofs.FirstLine.{turned_back, let_through}
-use Rattle.limits.specs.Answers.{compared, same_if}
-use Rattle.limits.specs.declared.BuildAnswer.TheVariants.{Refused}
-use mathlib.Core.Path.{sym, ap, ◌∙◌}
+use Rattle.limits.proofs.FirstLine.{accepted_with, passed_on, goes_on}
+use Rattle.limits.specs.Answers.{compared, accepted_answer}
+use Rattle.limits.specs.Lines.{unless_refused}
+use Rattle.limits.specs.Refusals.{panel_refusal}
+use Rattle.panel.specs.Builds.{same_build}
+use mathlib.Core.Path.{ap₂}
 use Rattle.limits.proofs.calls.same_build.Goals as goal
 
-pub returns-then-m-ne0 : goal.returns-then-m-ne0
-unfolding compared
-returns-then-m-ne0 c = turned_back Refused _ c.panel_refusal-m.ensures c.if-m-ne0.true
+pub returns-in_err-first : goal.returns-in_err-first
+unfolding compared accepted_answer
+returns-in_err-first c =
+    let p = err_from_is_err_and c.from_residual.result c.from_residual.ensures.1 in
+    let a = c.args in
+    rw (p.1, p.2)
+    (passed_on (panel_refusal a.a) a.a (unless_refused (panel_refusal a.b) (same_build a.a a.b)) c.in_err-first.ensures)
 
-pub returns-then-n-ne0 : goal.returns-then-n-ne0
-unfolding compared
-returns-then-n-ne0 c =
-    let_through Refused c.panel_refusal-m.ensures c.if-m-ne0.false
-    (turned_back Refused _ c.panel_refusal-n.ensures c.if-n-ne0.true)
+pub returns-in_err-second : goal.returns-in_err-second
+unfolding compared accepted_answer
+returns-in_err-second c =
+    let p = err_from_is_err_and c.from_residual-in_err-second.result c.from_residual-in_err-second.ensures.1 in
+    let a = c.args in
+    rw (p.1, p.2)
+    (goes_on (panel_refusal a.a) a.a c.in_ok-first.ensures
+    (passed_on (panel_refusal a.b) a.b (Ok (same_build a.a a.b)) c.in_err-second.ensures))
 
 pub is_same_build-requires : goal.is_same_build-requires
 is_same_build-requires c =
-    let args = c.args in (
-      (accepted_fits args.a (sym c.panel_refusal-m.ensures ∙ c.if-m-ne0.false)).count,
-      (accepted_fits args.b (sym c.panel_refusal-n.ensures ∙ c.if-n-ne0.false)).count,
-    )
+    ((accepted_fits c.panel.result c.panel.ensures.accepted).count, (accepted_fits c.panel-2.result c.panel-2.ensures.accepted).count)
 
 pub returns : goal.returns
-unfolding compared
+unfolding compared accepted_answer
 returns c =
-    let_through Refused c.panel_refusal-m.ensures c.if-m-ne0.false
-    (let_through Refused c.panel_refusal-n.ensures c.if-n-ne0.false
-    (c.same_if.ensures ∙ ap same_if c.is_same_build.ensures))
+    let a = c.args in
+    goes_on (panel_refusal a.a) a.a c.in_ok-first.ensures
+    (goes_on (panel_refusal a.b) a.b c.in_ok-second.ensures
+    (ap Ok
+    (c.is_same_build.ensures
+    ∙ ap₂ same_build (c.panel.ensures.panel ∙ (accepted_with c.in_ok-first.ensures).1)
+    (c.panel-2.ensures.panel ∙ (accepted_with c.in_ok-second.ensures).1))))

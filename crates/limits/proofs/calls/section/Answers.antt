@@ -1,59 +1,52 @@
--- `limits::calls::section` meets its contract: the section is worked out of a panel that no line turns back.
--- Assumes nothing.
-use Prim.Native.Nat.{ℕ}
+-- `limits::calls::section` meets its contract: the section is worked out of a panel that no line refuses. Assumes nothing.
+use Rattle.std.proofs.Common.{◌≡◌, ℕ, Bool, Ok, ap, ◌∙◌}
+use Rattle.std.proofs.lemmas.Result.{err_from_is_err_and}
 use Rattle.limits.proofs.Accepted.{accepted_fits}
-use Rattle.limits.proofs.FirstLine.{turned_back, let_through}
-use Rattle.limits.proofs.Turned.{shown_accepted}
-use Rattle.limits.specs.Answers.{section_answer}
+use Rattle.limits.proofs.FirstLine.{accepted_with, passed_on, goes_on}
+use Rattle.limits.specs.Answers.{section_answer, accepted_answer}
 use Rattle.limits.specs.Refusals.{panel_refusal}
-use Rattle.limits.specs.declared.SectionAnswer.TheVariants.{At, Refused}
 use Rattle.panel.specs.Faces.{shown}
 use Rattle.panel.specs.Lamellae.{lamellae}
 use Rattle.panel.specs.declared.Panel.{Panel}
 use Rattle.section.proofs.Chains.{counted_bounds}
 use Rattle.section.proofs.NothingCut.{nothing_cut}
 use Rattle.section.specs.declared.Section.{Section}
-use Rattle.section.specs.Tests.{carries, section_at, depth_passes, SectionFits}
-use mathlib.Core.Path.{◌≡◌, sym, ap, ap₂, ◌∙◌}
+use Rattle.section.specs.Tests.{carries, section_at, depth_passes}
+use mathlib.Core.Path.{ap₂}
 use Rattle.limits.proofs.calls.section.Goals as goal
 
--- the fire that is shown keeps the limits
-fits_shown : (p fire : Panel) {n : ℕ} → n ≡ panel_refusal p → n ≡ 0 → fire ≡ shown p → SectionFits fire
-fits_shown p fire e z f = rw f (accepted_fits (shown p) (shown_accepted p (sym e ∙ z)))
-
-pub returns-then-n-ne0 : goal.returns-then-n-ne0
-unfolding section_answer
-returns-then-n-ne0 c = turned_back Refused _ c.panel_refusal-n.ensures c.if-n-ne0.true
-
-pub shown-exposed-requires : goal.shown-exposed-requires
-shown-exposed-requires c = (accepted_fits c.args.p (sym c.panel_refusal-n.ensures ∙ c.if-n-ne0.false)).count
+pub returns-in_err-of : goal.returns-in_err-of
+unfolding section_answer accepted_answer
+returns-in_err-of c =
+    let p = err_from_is_err_and c.from_residual.result c.from_residual.ensures.1 in
+    let fire = shown c.args.p in
+    rw (p.1, p.2)
+    (passed_on (panel_refusal c.args.p) c.args.p (Ok (section_at fire c.args.depth, depth_passes fire c.args.depth)) c.in_err-of.ensures)
 
 pub section_at-s-requires : goal.section_at-s-requires
-section_at-s-requires c =
-    fits_shown c.args.p c.shown-exposed.result c.panel_refusal-n.ensures c.if-n-ne0.false c.shown-exposed.ensures
+section_at-s-requires c = accepted_fits c.panel-exposed.result c.panel-exposed.ensures.accepted
 
-pub section_passes-requires : goal.section_passes-requires
-section_passes-requires c =
-    let fire = c.shown-exposed in
-    let a = c.args in
-    let f = fits_shown a.p fire.result c.panel_refusal-n.ensures c.if-n-ne0.false fire.ensures in record {
-      factor_bound = c.factor_of.ensures.1;
-      moment_bound = f.moment;
-      strength_bound = f.strength;
-      section_bounds = (
-        rw c.section_at-s.ensures (counted_bounds a.depth (lamellae fire.result) f.thickness),
-        rw c.section_at-s.ensures (nothing_cut a.depth (lamellae fire.result)),
-      );
-    }
+pub section_passes-passes-requires-clause-moment_bound : goal.section_passes-passes-requires-clause-moment_bound
+section_passes-passes-requires-clause-moment_bound c = (accepted_fits c.panel-exposed.result c.panel-exposed.ensures.accepted).moment
+
+pub section_passes-passes-requires-clause-strength_bound : goal.section_passes-passes-requires-clause-strength_bound
+section_passes-passes-requires-clause-strength_bound c = (accepted_fits c.panel-exposed.result c.panel-exposed.ensures.accepted).strength
+
+pub section_passes-passes-requires-clause-section_bounds : goal.section_passes-passes-requires-clause-section_bounds
+section_passes-passes-requires-clause-section_bounds c =
+    let fire = c.panel-exposed.result in
+    let f = accepted_fits fire c.panel-exposed.ensures.accepted in
+    rw c.section_at-s.ensures (counted_bounds c.args.depth (lamellae fire) f.thickness, nothing_cut c.args.depth (lamellae fire))
 
 pub returns : goal.returns
-unfolding section_answer
+unfolding section_answer accepted_answer
 returns c =
-    let fire = c.shown-exposed in
     let a = c.args in
-    let q = fire.result in
-    let_through Refused c.panel_refusal-n.ensures c.if-n-ne0.false
-    (ap₂ At c.section_at-s.ensures
-    (c.section_passes.ensures
+    let q = c.panel-exposed.result in
+    let is_shown : q ≡ shown a.p = c.panel-exposed.ensures.panel ∙ c.shown.ensures ∙ ap shown (accepted_with c.in_ok-of.ensures).1 in
+    goes_on (panel_refusal a.p) a.p c.in_ok-of.ensures
+    (ap Ok
+    (ap₂ (λ (s : Section) (passes : Bool). (s, passes)) c.section_at-s.ensures
+    (c.section_passes-passes.ensures
     ∙ ap₂ (λ (factor : ℕ) (x : Section). carries factor q.moment q.strength x) c.factor_of.ensures.0 c.section_at-s.ensures)
-    ∙ ap (λ (x : Panel). At (section_at x a.depth) (depth_passes x a.depth)) fire.ensures)
+    ∙ ap (λ (x : Panel). (section_at x a.depth, depth_passes x a.depth)) is_shown))

@@ -1,0 +1,76 @@
+// A panel that no line of the table refuses: what every call works on once it has checked its panel.
+ghost use Rattle.std.specs.Prelude.{◌≡◌};
+ghost use Rattle.panel.specs.Faces.{turned, shown};
+ghost use Rattle.limits.specs.Numbers.{by_number};
+ghost use Rattle.limits.specs.Lines.{refusal, unless_refused};
+ghost use Rattle.limits.specs.Refusals.{table_lines, panel_refusal};
+ghost use Rattle.limits.specs.Answers.{accepted_answer};
+
+use crate::refusal::Refusal;
+use crate::table::check_table;
+use crate::{ByteFaults, NO_BYTES};
+use panel::{Panel, faces};
+use std::marker::Model;
+
+// In clauses it is the panel.
+#[derive(Clone, Copy)]
+pub struct Accepted {
+    panel: Panel,
+}
+
+impl Model for Accepted {
+    ghost use Rattle.panel.specs.declared.Panel.{Panel};
+
+    ghost Value = { Panel };
+
+    ghost use Rattle.std.specs.Prelude.{◌≡◌};
+    ghost use Rattle.limits.specs.Refusals.{panel_refusal};
+
+    ghost view = { λ a. a.panel };
+
+    ghost invariant = { λ a. panel_refusal a.panel ≡ 0 };
+
+    ghost inverse = { λ p. record { panel = p } };
+}
+
+impl Accepted {
+    // A panel that stands in bytes: the panel, or the first line that fits.
+    pub fn in_bytes(f: ByteFaults, p: Panel) -> Result<Accepted, Refusal>
+        ensures { by_number result ≡ unless_refused (refusal (table_lines f p)) p }
+    {
+        check_table(f, p)?;
+        Ok(Accepted { panel: p })
+    }
+
+    // A panel alone.
+    pub fn of(p: Panel) -> Result<Accepted, Refusal>
+        ensures { by_number result ≡ accepted_answer p }
+    {
+        Accepted::in_bytes(NO_BYTES, p)
+    }
+
+    pub fn panel(self) -> Panel
+        ensures panel { result ≡ self }
+        ensures accepted { panel_refusal result ≡ 0 }
+    {
+        self.panel
+    }
+
+    // The panel with its last face first.
+    pub fn turned(self) -> Accepted
+        ensures { result ≡ turned self }
+    {
+        Accepted {
+            panel: faces::turned(self.panel),
+        }
+    }
+
+    // The panel whose depths and section are shown.
+    pub fn shown(self) -> Accepted
+        ensures { result ≡ shown self }
+    {
+        Accepted {
+            panel: faces::shown(self.panel),
+        }
+    }
+}
