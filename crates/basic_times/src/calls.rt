@@ -1,28 +1,27 @@
 // The open call of this crate: the basic time at a bare thickness in tenths of mm. It asks nothing of its caller.
 ghost use Rattle.std.specs.Prelude.{◌≡◌};
+ghost use Rattle.limits.specs.Numbers.{by_number, line_number};
 ghost use Rattle.basic_times.specs.Answers.{bare_line, time_answer};
 
+use crate::Role;
 use crate::times::time_at;
-use crate::{Role, TimeAnswer};
+use limits::refusal::Refusal;
+use limits::table::refuse_if;
 use panel::Material;
 use panel::materials::bad_thickness;
 
-fn bare_line(m: Material) -> u8
-    ensures { result ≡ bare_line m }
+fn bare_line(m: Material) -> Refusal
+    ensures { line_number result ≡ bare_line m }
 {
     match m {
-        Material::Gypsum => 8,
-        Material::Wood => 11,
-        Material::Osb => 8,
-        Material::ParticleBoard => 8,
+        Material::Wood => Refusal::Lamellae,
+        Material::Gypsum | Material::Osb | Material::ParticleBoard => Refusal::Boards,
     }
 }
 
-pub fn basic_time(role: Role, m: Material, h: u16) -> TimeAnswer
-    ensures { result ≡ time_answer role m h }
+pub fn basic_time(role: Role, m: Material, h: u16) -> Result<u32, Refusal>
+    ensures { by_number result ≡ time_answer role m h }
 {
-    if bad_thickness(m, h) {
-        return TimeAnswer::Refused(bare_line(m));
-    }
-    TimeAnswer::Time(time_at(role, m, h))
+    refuse_if(bad_thickness(m, h), bare_line(m))?;
+    Ok(time_at(role, m, h))
 }

@@ -22,10 +22,3 @@ pub enum Role {
     Protection,
     Insulation,
 }
-
-// A basic time in hundredths of a minute, or the refusal's number.
-#[derive(Clone, Copy)]
-pub enum TimeAnswer {
-    Time(u32),
-    Refused(u8),
-}

@@ -5,6 +5,7 @@ use mathlib.Core.List.{List, [], ◌∷◌, ◌++◌, append_assoc}
 use native.Mathlib.Numerals.{add-one}
 use borrow.Author.Tests.{ltb-false, lt-ltb, le-ltb}
 use lib.Dec.{ltb}
+use Rattle.std.specs.Prelude.{Ok, Err}
 use lib.ListN.{length, drop, get_or, set}
 use lib.Seq.{drop-cons, set-append_seam}
 use Rattle.numbers.specs.Firsts.{firsts}
@@ -18,7 +19,6 @@ use Rattle.limits.proofs.Turned.{shown_accepted}
 use Rattle.limits.proofs.FirstLine.{cause_none, open_above, open_both, answered, turned_back}
 use Rattle.charring.specs.Fits.{FireFits}
 use Rattle.charring.proofs.Accepted.{fire_fits}
-use Rattle.charring.specs.declared.TableAnswer.TheVariants.{Filled, Refused}
 use Rattle.charring.specs.Answers.{minute_refusal, depth_table, table_refusal, table_answer, table_after}
 
 -- A minute
@@ -32,18 +32,6 @@ unfolding minute_refusal panel_refusal
 minute_taken p minute e =
     let both = open_both (panel_lines p) (late minute) tt e in
     (both.0, ltb-false 360 minute (cause_none (late minute) tt both.1 15))
-
--- the fire that is shown of an accepted panel fits
-pub shown_fits : (p exposed : Panel) → panel_refusal p ≡ 0 → exposed ≡ shown p → FireFits exposed
-shown_fits p exposed e s = subst FireFits (sym s) (fire_fits (shown p) (shown_accepted p e))
-
-pub minute_fits : (p exposed : Panel) (minute : ℕ) {n : ℕ} → n ≡ minute_refusal p minute → n ≡ 0 → exposed ≡ shown p → FireFits exposed × (minute ≤ 360)
-minute_fits p exposed minute e z s =
-    let h = minute_taken p minute (sym e ∙ z) in
-    (shown_fits p exposed h.0 s, h.1)
-
-pub minute_count : (p : Panel) (minute : ℕ) {n : ℕ} → n ≡ minute_refusal p minute → n ≡ 0 → p.count ≤ 9
-minute_count p minute e z = (accepted_fits p (minute_taken p minute (sym e ∙ z)).0).count
 
 -- The table
 
@@ -72,17 +60,17 @@ table_taken p space e h = sym (open_above (panel_lines p) (short space) tt refl 
 
 pub table_turned :
     (p : Panel) (space : List ℕ) (n : ℕ) → n ≡ table_refusal p space → (n ≡ 0 → ⊥)
-    → (Refused n ≡ table_answer p space) × (space ≡ table_after p space)
+    → (Err n ≡ table_answer p space) × (space ≡ table_after p space)
 unfolding table_answer table_after
 table_turned p space n e ne =
-    (turned_back Refused Filled e ne, turned_back (λ (k : ℕ). space) (depth_table (shown p) ++ drop 361 space) e ne)
+    (turned_back Err (Ok tt) e ne, turned_back (λ (k : ℕ). space) (depth_table (shown p) ++ drop 361 space) e ne)
 
 pub table_filled :
     (p : Panel) (space after : List ℕ) → panel_refusal p ≡ 0 → 361 ≤ length space → after ≡ depth_table (shown p) ++ drop 361 space
-    → (Filled ≡ table_answer p space) × (after ≡ table_after p space)
+    → (Ok tt ≡ table_answer p space) × (after ≡ table_after p space)
 unfolding table_answer table_after
 table_filled p space after e h stored =
     let z = table_taken p space e h in (
-      answered (table_refusal p space) Refused Filled z,
+      answered (table_refusal p space) Err (Ok tt) z,
       stored ∙ answered (table_refusal p space) (λ (k : ℕ). space) (depth_table (shown p) ++ drop 361 space) z,
     )

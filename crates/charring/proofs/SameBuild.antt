@@ -9,15 +9,13 @@ use Rattle.panel.specs.Faces.{shown}
 use Rattle.panel.proofs.Builds.{same_shared}
 use Rattle.panel.proofs.Turning.{shown_build}
 use lib.ListN.{drop}
-use Rattle.limits.specs.Lines.{Line, refusal, answer}
+use Rattle.limits.specs.Lines.{Line, refusal, answer, unless_refused}
 use Rattle.limits.specs.Refusals.{panel_lines, panel_refusal}
 use Rattle.limits.proofs.FirstLine.{open_above}
 use Rattle.charring.specs.Fires.{failure_of, intact_end, first_end, bond_lines}
 use Rattle.charring.specs.Stages.{way}
 use Rattle.charring.specs.Depths.{char_at, effective_at, round_up, tenths_at}
 use Rattle.charring.specs.Phases.{phase_at}
-use Rattle.charring.specs.declared.PhaseAnswer.TheVariants.{At, Refused as RefusedPhase}
-use Rattle.charring.specs.declared.DepthAnswer.TheVariants.{Depth, Refused as RefusedDepth}
 use Rattle.charring.specs.Answers.{
   minute_refusal,
   table_refusal,
@@ -72,18 +70,18 @@ module _ (a b : Panel) (e : panel_refusal a ≡ 0) (f : panel_refusal b ≡ 0) (
   pub phase_answers_shared : (minute : ℕ) → phase_answer a minute ≡ phase_answer b minute
   unfolding phase_answer
   phase_answers_shared minute =
-      λ i. answer (minute_alike minute i) RefusedPhase (At (phase_shared (shown a) (shown b) (shown_build a b h) minute 1 i))
+      λ i. unless_refused (minute_alike minute i) (phase_shared (shown a) (shown b) (shown_build a b h) minute 1 i)
 
   pub char_answers_shared : (minute : ℕ) → char_answer a minute ≡ char_answer b minute
   unfolding char_answer
   char_answers_shared minute =
-      λ i. answer (minute_alike minute i) RefusedDepth
-      (Depth (round_up (char_shared (shown a) (shown b) (shown_build a b h) minute 1 i) (2000000 * 1)))
+      λ i. unless_refused (minute_alike minute i)
+      (round_up (char_shared (shown a) (shown b) (shown_build a b h) minute 1 i) (2000000 * 1))
 
   pub effective_answers_shared : (minute : ℕ) → effective_answer a minute ≡ effective_answer b minute
   unfolding effective_answer
   effective_answers_shared minute =
-      λ i. answer (minute_alike minute i) RefusedDepth (Depth (tenths_shared (shown a) (shown b) (shown_build a b h) minute 1 i))
+      λ i. unless_refused (minute_alike minute i) (tenths_shared (shown a) (shown b) (shown_build a b h) minute 1 i)
 
   pub table_answers_shared : (space : List ℕ) → table_answer a space ≡ table_answer b space
   unfolding table_answer

@@ -17,8 +17,6 @@ use Rattle.charring.specs.Fires.{tenth, failure_of, intact_end, first_end, lines
 use Rattle.charring.specs.Stages.{way}
 use Rattle.charring.specs.Depths.{char_at, effective_at, round_up, micrometres_at, tenths_at}
 use Rattle.charring.specs.Phases.{phase_from, phase_at}
-use Rattle.charring.specs.declared.PhaseAnswer.TheVariants.{At, Refused as RefusedPhase}
-use Rattle.charring.specs.declared.DepthAnswer.TheVariants.{Depth, Refused as RefusedDepth}
 use Rattle.charring.specs.Answers.{
   minute_refusal,
   table_refusal,
@@ -78,18 +76,18 @@ table_refusal_same p q h space = ap (λ (ls : List Line). refusal (ls ++ short s
 pub phase_unused : (p q : Panel) → SameUsed p q → (minute : ℕ) → phase_answer p minute ≡ phase_answer q minute
 unfolding phase_answer
 phase_unused p q h minute =
-    λ i. answer (minute_refusal_same p q h minute i) RefusedPhase (At (phase_same (shown p) (shown q) (shown_same p q h) minute 1 i))
+    λ i. unless_refused (minute_refusal_same p q h minute i) (phase_same (shown p) (shown q) (shown_same p q h) minute 1 i)
 
 pub char_unused : (p q : Panel) → SameUsed p q → (minute : ℕ) → char_answer p minute ≡ char_answer q minute
 unfolding char_answer
 char_unused p q h minute =
-    λ i. answer (minute_refusal_same p q h minute i) RefusedDepth
-    (Depth (round_up (char_same (shown p) (shown q) (shown_same p q h) minute 1 i) (2000000 * 1)))
+    λ i. unless_refused (minute_refusal_same p q h minute i)
+    (round_up (char_same (shown p) (shown q) (shown_same p q h) minute 1 i) (2000000 * 1))
 
 pub effective_unused : (p q : Panel) → SameUsed p q → (minute : ℕ) → effective_answer p minute ≡ effective_answer q minute
 unfolding effective_answer
 effective_unused p q h minute =
-    λ i. answer (minute_refusal_same p q h minute i) RefusedDepth (Depth (tenths_same (shown p) (shown q) (shown_same p q h) minute 1 i))
+    λ i. unless_refused (minute_refusal_same p q h minute i) (tenths_same (shown p) (shown q) (shown_same p q h) minute 1 i)
 
 pub table_same : (p q : Panel) → SameUsed p q → depth_table p ≡ depth_table q
 unfolding depth_table

@@ -22,27 +22,6 @@ pub enum Phase {
     Settled,
 }
 
-// The phase at a minute, or the refusal's number.
-#[derive(Clone, Copy)]
-pub enum PhaseAnswer {
-    At(Phase),
-    Refused(u8),
-}
-
-// A depth at a minute, or the refusal's number.
-#[derive(Clone, Copy)]
-pub enum DepthAnswer {
-    Depth(u32),
-    Refused(u8),
-}
-
-// The depth table is filled, or the refusal's number.
-#[derive(Clone, Copy)]
-pub enum TableAnswer {
-    Filled,
-    Refused(u8),
-}
-
 // What is the same at every minute: t_ch and t_f, the rates under cladding and after it, the depth at t_f, where the first run
 // ends, the back face, and when k0 is 1. Times in thousandths of a minute, lengths in picometres.
 #[derive(Clone, Copy)]

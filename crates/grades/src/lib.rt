@@ -13,13 +13,6 @@ pub struct Grade {
     pub minutes: u16,
 }
 
-// A grade, or the refusal's number.
-#[derive(Clone, Copy)]
-pub enum GradeAnswer {
-    Of(Grade),
-    Refused(u8),
-}
-
 impl Grade {
     pub const NONE: Grade = Grade { minutes: 0 };
 

@@ -1,11 +1,11 @@
 -- Panels of the same build have the same layers and EI, and the calls answer alike.
 use mathlib.Core.Path.{◌≡◌, ap}
+use Rattle.std.specs.Prelude.{Ok}
 use Rattle.panel.specs.declared.Panel.{Panel}
 use Rattle.panel.specs.Builds.{SameBuild}
 use Rattle.panel.proofs.Turning.{least_build}
 use Rattle.limits.specs.Refusals.{panel_refusal}
 use Rattle.layers.specs.Layers.{layers_of, sum_after, ei_sum, ei_minute, printed_ei}
-use Rattle.layers.specs.declared.LayerAnswer.TheVariants.{Value}
 use Rattle.layers.specs.Answers.{ei_answer, ei_sum_answer}
 
 module _ (a b : Panel) (h : SameBuild a b) where
@@ -25,8 +25,8 @@ ei_shared = least_build ei_minute (λ a b h. rw (sum_shared a b h))
 module _ (a b : Panel) (e : panel_refusal a ≡ 0) (f : panel_refusal b ≡ 0) (h : SameBuild a b) where
   pub sum_answers_shared : ei_sum_answer a ≡ ei_sum_answer b
   unfolding ei_sum_answer
-  sum_answers_shared = rw (e, f) (ap Value (least_build ei_sum sum_shared a b h))
+  sum_answers_shared = rw (e, f) (ap Ok (least_build ei_sum sum_shared a b h))
 
   pub ei_answers_shared : ei_answer a ≡ ei_answer b
   unfolding ei_answer
-  ei_answers_shared = rw (e, f) (ap Value (ei_shared a b h))
+  ei_answers_shared = rw (e, f) (ap Ok (ei_shared a b h))

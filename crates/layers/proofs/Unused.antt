@@ -4,10 +4,9 @@ use Rattle.panel.specs.declared.Panel.{Panel}
 use Rattle.panel.specs.Lamellae.{SameUsed}
 use Rattle.panel.proofs.Used.{lamellae_cleared, unused}
 use Rattle.panel.proofs.Turning.{least_same}
-use Rattle.limits.specs.Lines.{answer}
+use Rattle.limits.specs.Lines.{unless_refused}
 use Rattle.limits.proofs.Unused.{refusal_unused}
 use Rattle.layers.specs.Layers.{ei_sum, ei_minute, printed_ei}
-use Rattle.layers.specs.declared.LayerAnswer.TheVariants.{Value, Refused}
 use Rattle.layers.specs.Answers.{ei_answer, ei_sum_answer}
 
 sum_unused : (p q : Panel) → SameUsed p q → ei_sum p ≡ ei_sum q
@@ -22,8 +21,8 @@ printed_ei_same = least_same ei_minute minute_unused
 
 pub ei_sum_unused : (p q : Panel) → SameUsed p q → ei_sum_answer p ≡ ei_sum_answer q
 unfolding ei_sum_answer
-ei_sum_unused p q h = λ i. answer (refusal_unused p q h i) Refused (Value (least_same ei_sum sum_unused p q h i))
+ei_sum_unused p q h = λ i. unless_refused (refusal_unused p q h i) (least_same ei_sum sum_unused p q h i)
 
 pub ei_unused : (p q : Panel) → SameUsed p q → ei_answer p ≡ ei_answer q
 unfolding ei_answer
-ei_unused p q h = λ i. answer (refusal_unused p q h i) Refused (Value (printed_ei_same p q h i))
+ei_unused p q h = λ i. unless_refused (refusal_unused p q h i) (printed_ei_same p q h i)

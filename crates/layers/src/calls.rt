@@ -1,30 +1,25 @@
 // The open calls of this crate: they ask nothing of their caller.
 ghost use Rattle.std.specs.Prelude.{◌≡◌};
+ghost use Rattle.limits.specs.Numbers.{by_number};
 ghost use Rattle.layers.specs.Answers.{ei_sum_answer, ei_answer};
 
-use crate::LayerAnswer;
 use crate::minutes::{ei_minute_of, least_sum_of};
-use limits::calls::panel_refusal;
+use limits::check::Accepted;
+use limits::refusal::Refusal;
 use panel::Panel;
 
 // The sum of the layer times in hundredths of a minute.
-pub fn ei_sum(p: Panel) -> LayerAnswer
-    ensures { result ≡ ei_sum_answer p }
+pub fn ei_sum(p: Panel) -> Result<u32, Refusal>
+    ensures { by_number result ≡ ei_sum_answer p }
 {
-    let n = panel_refusal(p);
-    if n != 0 {
-        return LayerAnswer::Refused(n);
-    }
-    LayerAnswer::Value(least_sum_of(p))
+    let accepted = Accepted::of(p)?;
+    Ok(least_sum_of(accepted.panel()))
 }
 
 // EI in whole minutes.
-pub fn ei(p: Panel) -> LayerAnswer
-    ensures { result ≡ ei_answer p }
+pub fn ei(p: Panel) -> Result<u32, Refusal>
+    ensures { by_number result ≡ ei_answer p }
 {
-    let n = panel_refusal(p);
-    if n != 0 {
-        return LayerAnswer::Refused(n);
-    }
-    LayerAnswer::Value(ei_minute_of(p))
+    let accepted = Accepted::of(p)?;
+    Ok(ei_minute_of(accepted.panel()))
 }

@@ -5,16 +5,12 @@ use Rattle.panel.specs.declared.Panel.{Panel}
 use Rattle.panel.specs.Lamellae.{SameUsed}
 use Rattle.panel.proofs.Turning.{least_same}
 use Rattle.section.specs.Tests.{depth_passes}
-use Rattle.limits.specs.Lines.{answer}
+use Rattle.limits.specs.Lines.{unless_refused}
 use Rattle.limits.proofs.Unused.{refusal_unused, passes_same}
 use Rattle.charring.proofs.Unused.{tenths_same, minute_refusal_same}
 use Rattle.load.specs.Failure.{EveryTenthPasses, TimePasses}
-use Rattle.load.specs.LoadMinute.{every_from, time_test, whole_part, load_minute, printed_load, load_seconds, printed_load_seconds, minutes_in, seconds_over}
-use Rattle.load.specs.Answers.{load_answer, load_time_answer, reserve_of, reserve_answer}
-use Rattle.load.specs.declared.LoadAnswer.TheVariants.{Minute, Refused}
-use Rattle.load.specs.declared.LoadTimeAnswer.{LoadTimeAnswer}
-use Rattle.load.specs.declared.LoadTimeAnswer.TheVariants.{MinutesAndSeconds, Refused as RefusedTime}
-use Rattle.load.specs.declared.ReserveAnswer.TheVariants.{By, Refused as RefusedReserve}
+use Rattle.load.specs.LoadMinute.{every_from, time_test, whole_part, load_minute, printed_load, load_seconds, printed_load_seconds}
+use Rattle.load.specs.Answers.{load_answer, minutes_and_seconds, load_time_answer, reserve_of, reserve_answer}
 
 depth_passes_same : (p q : Panel) → SameUsed p q → depth_passes p ≡ depth_passes q
 depth_passes_same p q h i depth = passes_same p q h depth i
@@ -37,16 +33,13 @@ printed_seconds_same = least_same load_seconds (whole_part_same 60)
 module _ (p q : Panel) (h : SameUsed p q) where
   pub load_unused : load_answer p ≡ load_answer q
   unfolding load_answer
-  load_unused = λ i. answer (refusal_unused p q h i) Refused (Minute (printed_load_same p q h i))
+  load_unused = λ i. unless_refused (refusal_unused p q h i) (printed_load_same p q h i)
 
   pub load_time_unused : load_time_answer p ≡ load_time_answer q
   unfolding load_time_answer
-  load_time_unused = λ i. answer (refusal_unused p q h i) RefusedTime (of_seconds (printed_seconds_same p q h i))
-    where
-      of_seconds : ℕ → LoadTimeAnswer
-      of_seconds seconds = MinutesAndSeconds (minutes_in seconds) (seconds_over seconds)
+  load_time_unused = λ i. unless_refused (refusal_unused p q h i) (minutes_and_seconds (printed_seconds_same p q h i))
 
   pub reserve_unused : (wanted : ℕ) → reserve_answer p wanted ≡ reserve_answer q wanted
   unfolding reserve_answer
   reserve_unused wanted =
-      λ i. answer (minute_refusal_same p q h wanted i) RefusedReserve (By (reserve_of wanted (printed_load_same p q h i)))
+      λ i. unless_refused (minute_refusal_same p q h wanted i) (reserve_of wanted (printed_load_same p q h i))

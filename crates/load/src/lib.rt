@@ -7,23 +7,9 @@ pub mod lasting;
 pub mod minutes;
 mod scan;
 
-// The load minute, or the refusal's number.
-#[derive(Clone, Copy)]
-pub enum LoadAnswer {
-    Minute(u16),
-    Refused(u8),
-}
-
-// The failure time in whole minutes and seconds, from 0:00 to 360:00, or the refusal's number.
-#[derive(Clone, Copy)]
-pub enum LoadTimeAnswer {
-    MinutesAndSeconds(u16, u8),
-    Refused(u8),
-}
-
-// The load minute less the wanted one, from -360 to 360, or the refusal's number.
-#[derive(Clone, Copy)]
-pub enum ReserveAnswer {
-    By(i32),
-    Refused(u8),
+// A time in whole minutes and seconds, from 0:00 to 360:00.
+#[derive(Clone, Copy, Debug, PartialEq, Eq)]
+pub struct MinutesAndSeconds {
+    pub minutes: u16,
+    pub seconds: u8,
 }

@@ -5,12 +5,10 @@ use Rattle.panel.specs.Builds.{SameBuild}
 use Rattle.panel.specs.Faces.{turned}
 use Rattle.panel.proofs.Builds.{same_but_uncompared}
 use Rattle.panel.proofs.Turning.{turned_build}
-use Rattle.limits.specs.declared.BuildAnswer.TheVariants.{Same}
 use Rattle.limits.specs.Answers.{build_answer}
 use Rattle.limits.proofs.SameBuilds.{same_when}
 use Rattle.charring.proofs.SameBuild as charring
 use Rattle.layers.proofs.SameBuild as layers
-use Rattle.grades.specs.declared.GradeAnswer.TheVariants.{Of}
 use Rattle.grades.specs.Grades.{grade_of}
 use Rattle.ratings.specs.Answers.{ei_grade, graded}
 use Rattle.ratings.specs.Shared.{SharedFire, Shared}
@@ -42,5 +40,5 @@ same_build_shares a b e =
       tables_after = charring.table_after_shared a b both.0 both.1.0 h;
       sum_answers = layers.sum_answers_shared a b both.0 both.1.0 h;
       ei_answers = layers.ei_answers_shared a b both.0 both.1.0 h;
-      grade_answers = rw (both.0, both.1.0) (ap Of grade);
+      grade_answers = rw (both.0, both.1.0) (ap Ok grade);
     }

@@ -1,11 +1,10 @@
 -- The grades of a panel, by document 01's number: what the open calls of this crate answer.
+use Rattle.std.specs.Prelude.{ℕ, Result}
 use Rattle.panel.specs.declared.Panel.{Panel}
-use Rattle.limits.specs.Lines.{answer}
+use Rattle.limits.specs.Lines.{unless_refused}
 use Rattle.limits.specs.Refusals.{panel_refusal}
 use Rattle.layers.specs.Layers.{printed_ei}
 use Rattle.grades.specs.declared.Grade.{Grade}
-use Rattle.grades.specs.declared.GradeAnswer.{GradeAnswer}
-use Rattle.grades.specs.declared.GradeAnswer.TheVariants.{Of, Refused}
 use Rattle.grades.specs.Grades.{grade_of, rei_of}
 use Rattle.load.specs.LoadMinute.{printed_load}
 
@@ -20,5 +19,5 @@ abbrev pub rei_grade : Panel → Grade
 rei_grade p = rei_of (printed_load p) (printed_ei p)
 
 -- a grade, or the refusal
-unfoldable pub graded : (Panel → Grade) → Panel → GradeAnswer
-graded grade p = answer (panel_refusal p) Refused (Of (grade p))
+unfoldable pub graded : (Panel → Grade) → Panel → Result Grade ℕ
+graded grade p = unless_refused (panel_refusal p) (grade p)

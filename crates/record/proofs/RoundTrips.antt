@@ -5,6 +5,7 @@ use mathlib.Core.Path.{◌≡◌, sym, ap, ap₂, ◌∙◌}
 use mathlib.Core.List.{List, ◌++◌}
 use native.Mathlib.Omega.{arith}
 use lib.ListN.{length, take, drop}
+use Rattle.std.specs.Prelude.{Ok, Err}
 use lib.Seq.{take_at}
 use Rattle.numbers.specs.Bytes.{AreBytes}
 use Rattle.panel.specs.declared.Panel.{Panel}
@@ -12,10 +13,9 @@ use Rattle.panel.specs.Lamellae.{cleared}
 use Rattle.limits.specs.Refusals.{panel_refusal}
 use Rattle.limits.proofs.FirstLine.{answered}
 use Rattle.limits.proofs.Accepted.{accepted_fits}
-use Rattle.record.specs.declared.Writing.TheVariants.{Written, Refused}
 use Rattle.record.specs.Layouts.{record_length, panel_of, encode}
 use Rattle.record.specs.Refusals.{record_refusal, write_refusal}
-use Rattle.record.specs.Answers.{decode, reading, blank, write_answer, space_after, WrittenBack}
+use Rattle.record.specs.Answers.{decode, write_answer, space_after, WrittenBack}
 use Rattle.record.proofs.Lengths.{length_encode}
 use Rattle.record.proofs.Writes.{write_taken, write_accepted}
 use Rattle.record.proofs.Sound.{accepted_sound, record_panel}
@@ -24,17 +24,17 @@ use Rattle.record.proofs.Accepting.{zero_else, encode_accepted}
 use Rattle.record.proofs.Back.{encode_back}
 
 -- a panel's record is read as the panel with its unused places 0
-pub decode_encode : (p : Panel) → panel_refusal p ≡ 0 → decode (encode p) ≡ reading 0 (cleared p)
+pub decode_encode : (p : Panel) → panel_refusal p ≡ 0 → decode (encode p) ≡ Ok (cleared p)
 unfolding decode
 decode_encode p e =
-    sym (answered (record_refusal (encode p)) (λ (n : ℕ). reading n blank) (reading 0 (panel_of (encode p))) (encode_accepted p e))
-    ∙ ap (reading 0) (panel_there p (accepted_fits p e).count (zero_else p e))
+    sym (answered (record_refusal (encode p)) Err (Ok (panel_of (encode p))) (encode_accepted p e))
+    ∙ ap Ok (panel_there p (accepted_fits p e).count (zero_else p e))
 
 -- Reading what was written gives the panel with its unused places 0: for every panel and space that the writer takes, reading
 -- the bytes that it says it wrote.
 pub read_written :
     (p : Panel) (space : List ℕ) → write_refusal p space ≡ 0
-    → decode (take (record_length p) (space_after p space)) ≡ reading 0 (cleared p)
+    → decode (take (record_length p) (space_after p space)) ≡ Ok (cleared p)
 unfolding space_after
 read_written p space e =
     ap (λ (l : List ℕ). decode (take (record_length p) l))
@@ -51,7 +51,7 @@ written_read b space h e room =
     let len : record_length p ≡ length b = sym (length_encode p) ∙ ap length back in
     let z : write_refusal p space ≡ 0 = write_accepted p space (record_panel b e) (omega arith) in
     record {
-      answer = sym (answered (write_refusal p space) Refused (Written (record_length p)) z) ∙ ap Written len;
+      answer = sym (answered (write_refusal p space) Err (Ok (record_length p)) z) ∙ ap Ok len;
       left =
           sym (answered (write_refusal p space) (λ (n : ℕ). space) (encode p ++ drop (record_length p) space) z)
           ∙ ap₂ (λ (l : List ℕ) (n : ℕ). l ++ drop n space) back len;

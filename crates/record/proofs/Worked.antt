@@ -68,6 +68,6 @@ pub g_written : encode (g 3000) ≡ g_bytes
 unfolding g_bytes encode board_bytes lamella_bytes lamellae_of
 g_written = refl
 
-pub g_read : decode g_bytes ≡ reading 0 (g 3000)
+pub g_read : decode g_bytes ≡ Ok (g 3000)
 unfolding g_bytes decode record_refusal panel_of lamellae_in some lamellae_of thickness counted_from total lowest highest section_of carries
 g_read = refl

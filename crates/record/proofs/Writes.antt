@@ -4,13 +4,13 @@ use mathlib.Core.Path.{◌≡◌, refl, sym, ap, ◌∙◌}
 use mathlib.Core.List.{List, [], ◌∷◌, ◌++◌}
 use borrow.Author.Tests.{lt-ltb, le-ltb}
 use lib.ListN.{length, drop}
+use Rattle.std.specs.Prelude.{Ok, Err}
 use lib.Seq.{sets}
 use Rattle.panel.specs.declared.Panel.{Panel}
 use Rattle.limits.specs.Lines.{Line, line}
 use Rattle.limits.specs.Refusals.{panel_lines, panel_refusal}
 use Rattle.limits.proofs.FirstLine.{open_above, open_both, answered, turned_back}
 use Rattle.record.specs.Layouts.{record_length, encode}
-use Rattle.record.specs.declared.Writing.TheVariants.{Written, Refused}
 use Rattle.record.specs.Answers.{write_answer, space_after}
 use Rattle.record.specs.Refusals.{short_for, write_refusal}
 use Rattle.record.proofs.Lengths.{stored_record}
@@ -38,19 +38,19 @@ write_taken p space e = (open_both (panel_lines p) (short p space) tt e).0
 
 pub answers_refused :
     (p : Panel) (space : List ℕ) (n : ℕ) → n ≡ write_refusal p space → (n ≡ 0 → ⊥)
-    → (Refused n ≡ write_answer p space) × (space ≡ space_after p space)
+    → (Err n ≡ write_answer p space) × (space ≡ space_after p space)
 unfolding write_answer space_after
 answers_refused p space n e ne =
-    (turned_back Refused (Written (record_length p)) e ne, turned_back (λ (k : ℕ). space) (encode p ++ drop (record_length p) space) e ne)
+    (turned_back Err (Ok (record_length p)) e ne, turned_back (λ (k : ℕ). space) (encode p ++ drop (record_length p) space) e ne)
 
 pub answers_written :
     (p : Panel) (space after : List ℕ) (len : ℕ) → len ≡ record_length p → panel_refusal p ≡ 0 → record_length p ≤ length space
     → after ≡ sets space 0 (encode p)
-    → (Written len ≡ write_answer p space) × (after ≡ space_after p space)
+    → (Ok len ≡ write_answer p space) × (after ≡ space_after p space)
 unfolding write_answer space_after
 answers_written p space after len el e h stored =
     let z = write_accepted p space e h in (
-      ap Written el ∙ answered (write_refusal p space) Refused (Written (record_length p)) z,
+      ap Ok el ∙ answered (write_refusal p space) Err (Ok (record_length p)) z,
       stored ∙ stored_record p space h
           ∙ answered (write_refusal p space) (λ (k : ℕ). space) (encode p ++ drop (record_length p) space) z,
     )

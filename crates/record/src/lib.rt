@@ -7,25 +7,9 @@ mod layout;
 mod reader;
 mod writer;
 
-use panel::Panel;
-
 // The arrays of a panel's lamellae.
 #[derive(Clone, Copy)]
 pub struct Lamellae {
     pub directions: [u8; 9],
     pub thicknesses: [u16; 9],
-}
-
-// What stands in a record: 0 and the panel, or the refusal's number and a blank panel.
-#[derive(Clone, Copy)]
-pub struct Reading {
-    pub refusal: u8,
-    pub panel: Panel,
-}
-
-// The number of bytes written, or the refusal's number.
-#[derive(Clone, Copy)]
-pub enum Writing {
-    Written(usize),
-    Refused(u8),
 }

@@ -1,19 +1,24 @@
 -- `load::calls::load_time` meets its contract: the time of an accepted panel, else the refusal. Assumes nothing.
-use Prim.Native.Nat.{ℕ}
-use Rattle.limits.proofs.FirstLine.{turned_back, let_through}
-use Rattle.load.specs.Answers.{load_time_answer}
-use Rattle.load.specs.LoadMinute.{minutes_in, seconds_over}
-use Rattle.load.specs.declared.LoadTimeAnswer.TheVariants.{MinutesAndSeconds, Refused}
-use mathlib.Core.Path.{ap, ap₂, ◌∙◌}
+use Rattle.std.proofs.Common.{Ok, ap, ◌∙◌}
+use Rattle.std.proofs.lemmas.Result.{err_from_is_err_and}
+use Rattle.limits.proofs.FirstLine.{passed_on, worked_out}
+use Rattle.limits.specs.Answers.{accepted_answer}
+use Rattle.limits.specs.Refusals.{panel_refusal}
+use Rattle.load.specs.Answers.{minutes_and_seconds, load_time_answer}
+use Rattle.load.specs.LoadMinute.{minutes_in, seconds_over, printed_load_seconds}
+use Rattle.load.specs.declared.MinutesAndSeconds.{MinutesAndSeconds}
+use Rattle.std.proofs.Common.{◌≡◌, ℕ}
+use mathlib.Core.Path.{ap₂}
 use Rattle.load.proofs.calls.load_time.Goals as goal
 
-pub returns-then-n-ne0 : goal.returns-then-n-ne0
-unfolding load_time_answer
-returns-then-n-ne0 c = turned_back Refused _ c.panel_refusal-n.ensures c.if-n-ne0.true
+pub returns-in_err-accepted : goal.returns-in_err-accepted
+unfolding load_time_answer accepted_answer
+returns-in_err-accepted c =
+    let p = err_from_is_err_and c.from_residual.result c.from_residual.ensures.1 in
+    rw (p.1, p.2) (passed_on (panel_refusal c.args.p) c.args.p (Ok ((λ q. minutes_and_seconds (printed_load_seconds q)) c.args.p)) c.in_err-accepted.ensures)
 
 pub returns : goal.returns
-unfolding load_time_answer
-returns c =
-    let_through Refused c.panel_refusal-n.ensures c.if-n-ne0.false
-    (ap₂ MinutesAndSeconds c.minutes_in.ensures c.seconds_over.ensures
-    ∙ ap (λ (seconds : ℕ). MinutesAndSeconds (minutes_in seconds) (seconds_over seconds)) c.load_seconds_of-seconds.ensures)
+unfolding load_time_answer accepted_answer
+returns c = worked_out (panel_refusal c.args.p) (λ q. minutes_and_seconds (printed_load_seconds q)) c.args.p c.in_ok-accepted.ensures (
+    ap₂ (λ (m s : ℕ). record { minutes = m; seconds = s }) c.minutes_in.ensures c.seconds_over.ensures
+    ∙ ap minutes_and_seconds (c.load_seconds_of-seconds.ensures ∙ ap printed_load_seconds c.panel.ensures.panel))

@@ -1,38 +1,39 @@
 -- `load::calls::reserve` meets its contract: the load minute of an accepted panel less a minute that is not above 360. Assumes
 -- nothing.
-use Prim.Native.Nat.{ℕ, ◌≤◌}
+use Rattle.std.proofs.Common.{Ok, ℕ, ◌≤◌, sym, ap, subst, ◌∙◌}
+use Rattle.std.proofs.lemmas.Result.{err_from_is_err_and}
 use Rattle.charring.proofs.Replies.{minute_taken}
-use Rattle.limits.proofs.FirstLine.{turned_back, let_through}
+use Rattle.charring.specs.Answers.{minute_refusal, asked_answer}
+use Rattle.limits.proofs.FirstLine.{accepted_with, passed_on, goes_on}
 use Rattle.load.proofs.EveryFire.{printed_most}
 use Rattle.load.proofs.Reserves.{reserve_fits}
 use Rattle.load.specs.Answers.{reserve_of, reserve_answer}
 use Rattle.load.specs.LoadMinute.{printed_load}
-use Rattle.load.specs.declared.ReserveAnswer.TheVariants.{By, Refused}
-use mathlib.Core.Path.{sym, ap, subst, ◌∙◌}
 use mir.Facts.{to_z-of_z}
 use mir.Syntax.{w32}
 use mir.Val.{SFits}
 use Rattle.load.proofs.calls.reserve.Goals as goal
 
-pub returns-then-n-ne0 : goal.returns-then-n-ne0
-unfolding reserve_answer
-returns-then-n-ne0 c = turned_back Refused _ c.minute_refusal-n.ensures c.if-n-ne0.true
-
-pub load_minute_of-requires : goal.load_minute_of-requires
-load_minute_of-requires c = (minute_taken _ _ (sym c.minute_refusal-n.ensures ∙ c.if-n-ne0.false)).0
+pub returns-in_err-accepted : goal.returns-in_err-accepted
+unfolding reserve_answer asked_answer
+returns-in_err-accepted c =
+    let a = c.args in
+    let p = err_from_is_err_and c.from_residual.result c.from_residual.ensures.1 in
+    rw (p.1, p.2) (passed_on (minute_refusal a.p a.wanted) a.p (Ok (reserve_of a.wanted (printed_load a.p))) c.in_err-accepted.ensures)
 
 pub reserve_of-requires : goal.reserve_of-requires
+unfolding asked_answer
 reserve_of-requires c = (
-  subst (λ (m : ℕ). m ≤ 360) (sym c.load_minute_of.ensures) (printed_most c.args.p),
-  (minute_taken _ _ (sym c.minute_refusal-n.ensures ∙ c.if-n-ne0.false)).1,
+  subst (λ (m : ℕ). m ≤ 360) (sym c.load_minute_of.ensures) (printed_most c.panel.result),
+  (minute_taken _ _ (accepted_with c.in_ok-accepted.ensures).0).1,
 )
 
 pub returns : goal.returns
-unfolding reserve_answer
+unfolding reserve_answer asked_answer
 returns c =
     let a = c.args in
-    let e = c.minute_refusal-n.ensures in
-    let z = c.if-n-ne0.false in
-    let worked = c.reserve_of.ensures ∙ ap (reserve_of a.wanted) c.load_minute_of.ensures in
-    let fits = reserve_fits (printed_load a.p) a.wanted (printed_most a.p) (minute_taken a.p a.wanted (sym e ∙ z)).1 in
-    let_through Refused e z (ap By (to_z-of_z (subst (SFits w32) (sym worked) fits) ∙ worked))
+    let taken = accepted_with c.in_ok-accepted.ensures in
+    let worked = c.reserve_of.ensures ∙ ap (reserve_of a.wanted) (c.load_minute_of.ensures ∙ ap printed_load (c.panel.ensures.panel ∙ taken.1)) in
+    let fits = reserve_fits (printed_load a.p) a.wanted (printed_most a.p) (minute_taken a.p a.wanted taken.0).1 in
+    goes_on (minute_refusal a.p a.wanted) a.p c.in_ok-accepted.ensures
+    (ap Ok (to_z-of_z (subst (SFits w32) (sym worked) fits) ∙ worked))
