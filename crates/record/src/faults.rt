@@ -11,7 +11,8 @@ fn bad_length(s: &[u8]) -> bool
     ensures { result ≡ bad_length s.now }
 {
     let n = s.len();
-    ((n < layout::SHORTEST) | (layout::LONGEST < n)) | !(usize::from(u16::from_be_bytes(bytes_at(s, layout::LENGTH))) == n)
+    ((n < layout::SHORTEST) | (layout::LONGEST < n))
+        | !(usize::from(u16::from_be_bytes(bytes_at(s, layout::LENGTH))) == n)
 }
 
 fn bad_board_count(s: &[u8]) -> bool

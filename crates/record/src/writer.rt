@@ -61,8 +61,8 @@ fn put_lamellae(out: &mut [u8], directions: &[u8], thicknesses: &[u16])
     requires room { lamella_length * length directions.now ≤ length out.old }
     ensures { out.new ≡ sets out.old 0 (lamella_bytes (lamellae_of directions.now thicknesses.now (length directions.now))) }
 {
-    for (i, (direction, thickness)) in directions.iter().zip(thicknesses).enumerate() {
-        put_lamella(&mut out[layout::LAMELLA * i..], *direction, *thickness);
+    for (i, direction) in directions.iter().enumerate() {
+        put_lamella(&mut out[layout::LAMELLA * i..], *direction, thicknesses[i]);
     }
 }
 
@@ -121,5 +121,9 @@ pub(crate) fn put_record(out: &mut [u8], p: Panel)
     put_front(out, record_length(p) as u16, p);
     put_head(&mut out[front..], p);
     put_cladding(&mut out[front + layout::HEAD..], p.cladding);
-    put_tail(&mut out[tail..], &p.directions[..p.count], &p.thicknesses[..p.count]);
+    put_tail(
+        &mut out[tail..],
+        &p.directions[..p.count],
+        &p.thicknesses[..p.count],
+    );
 }

@@ -1,6 +1,6 @@
 -- `record::reader::lamellae_in` meets its contract: after i turns the arrays hold the first i lamellae.
 -- Assumes nothing.
-use Rattle.record.specs.Layouts.{lamellae_in, arrays_of}
+use Rattle.record.specs.Layouts.{lamellae_in}
 use Rattle.panel.specs.Lamellae.{directions_of, thicknesses_of}
 use mathlib.Core.Path.{◌≡◌}
 use Rattle.record.proofs.reader.lamellae_in.Given as goal

@@ -1,7 +1,7 @@
 -- `record::reader::panel_of` meets its contract: field by field, by what the readers say.
 -- Assumes nothing.
 use Rattle.numbers.proofs.Words.{word_read}
-use Rattle.record.specs.Layouts.{panel_of, body}
+use Rattle.record.specs.Layouts.{panel_of}
 use Rattle.std.specs.Int.{w16, w32, from_be_bytes}
 use mathlib.Core.Path.{ap, ◌∙◌}
 use Rattle.record.proofs.reader.panel_of.Goals as goal
