@@ -54,6 +54,11 @@ word_read w32 b at = word 3 b at
 word_read w64 b at = word 7 b at
 word_read w128 b at = word 15 b at
 
+-- the same of a word that a call read from those bytes
+pub word_at :
+    (w : Width) (b : List ℕ) (at : ℕ) {bs : List ℕ} {v : ℕ} → bs ≡ places b at (byte_len w) → v ≡ from_be_bytes w bs → v ≡ number b at (byte_len w)
+word_at w b at e f = f ∙ ap (from_be_bytes w) e ∙ word_read w b at
+
 -- Writing
 
 power_positive : (n : ℕ) → 0 < 256 ^ n

@@ -69,6 +69,7 @@ fn cladding_at(c: usize, t: &[u8]) -> Cladding
 }
 
 // The first n lamellae of the lamella bytes.
+#[tactic(auto, unfolding(crate::specs::Layouts::lamellae_in))]
 fn lamellae_in(u: &[u8], n: usize) -> Lamellae
     requires { n ≤ 9 }
     ensures { result ≡ arrays_of (lamellae_in u.now n) }

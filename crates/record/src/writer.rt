@@ -37,6 +37,7 @@ fn put_two(out: &mut [u8], outer: Board, inner: Board)
     put_board(&mut out[layout::BOARD..], inner);
 }
 
+#[tactic(auto, unfolding(crate::specs::Layouts::board_bytes))]
 fn put_cladding(out: &mut [u8], c: Cladding)
     requires { board_length * length (boards_of c) ≤ length out.old }
     ensures { out.new ≡ sets out.old 0 (board_bytes (boards_of c)) }
@@ -56,6 +57,7 @@ fn put_lamella(out: &mut [u8], direction: u8, thickness: u16)
     put(out, layout::THICKNESS, thickness.to_be_bytes());
 }
 
+#[tactic(auto, unfolding(crate::specs::Layouts::lamella_bytes, panel::specs::Lamellae::lamellae_of))]
 fn put_lamellae(out: &mut [u8], directions: &[u8], thicknesses: &[u16])
     requires pairs { length thicknesses.now ≡ length directions.now }
     requires room { lamella_length * length directions.now ≤ length out.old }

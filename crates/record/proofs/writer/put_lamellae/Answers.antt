@@ -9,14 +9,10 @@ use Rattle.record.specs.Layouts.{lamella_widths, lamella_length, lamella_numbers
 use lib.ListN.{length, get_or}
 use lib.Seq.{sets}
 use mathlib.Core.List.{List}
-use mathlib.Core.Path.{refl, sym, ap, ◌∙◌, ◌≡◌}
+use mathlib.Core.Path.{sym, ap, ◌∙◌, ◌≡◌}
 use native.Mathlib.Numerals.{add-one}
 use native.Mathlib.Omega.{arith}
 use Rattle.record.proofs.writer.put_lamellae.Goals as goal
-
-pub loop-i-init : goal.loop-i-init
-unfolding lamellae_of lamella_bytes
-loop-i-init c = refl
 
 pub loop-i-preserved : goal.loop-i-preserved
 unfolding lamellae_of
