@@ -1,2 +1,2 @@
-pub mod Between
+pub mod Falling
 pub mod Greatest

@@ -3,12 +3,13 @@
 
 pub mod calls;
 
-ghost use Rattle.std.specs.Prelude.{◌≡◌, ◌≤◌};
+ghost use Rattle.std.specs.Prelude.{◌≡◌, ◌≤◌, nat_le};
+ghost use Rattle.std.specs.List.{find};
 ghost use Rattle.limits.specs.Causes.{last_minute};
 ghost use Rattle.grades.specs.Grades.{grade_of, rei_of};
 
 // A grade, in minutes; 0 below the least.
-#[derive(Clone, Copy)]
+#[derive(Clone, Copy, PartialEq, Eq, PartialOrd, Ord)]
 pub struct Grade {
     pub minutes: u16,
 }
@@ -38,45 +39,27 @@ impl Grade {
 
     pub const M360: Grade = Grade { minutes: 360 };
 
+    // The grades, the greatest first.
+    const DOWN: [Grade; 11] = [
+        Grade::M360,
+        Grade::M240,
+        Grade::M180,
+        Grade::M120,
+        Grade::M90,
+        Grade::M60,
+        Grade::M45,
+        Grade::M30,
+        Grade::M20,
+        Grade::M15,
+        Grade::M10,
+    ];
+
     // The greatest grade that is not above the minute. No open call: a minute above 360 has no grade.
     pub fn of(minute: u16) -> Grade
         requires { minute ≤ last_minute }
         ensures { result ≡ grade_of minute }
     {
-        if 360 <= minute {
-            return Grade::M360;
-        }
-        if 240 <= minute {
-            return Grade::M240;
-        }
-        if 180 <= minute {
-            return Grade::M180;
-        }
-        if 120 <= minute {
-            return Grade::M120;
-        }
-        if 90 <= minute {
-            return Grade::M90;
-        }
-        if 60 <= minute {
-            return Grade::M60;
-        }
-        if 45 <= minute {
-            return Grade::M45;
-        }
-        if 30 <= minute {
-            return Grade::M30;
-        }
-        if 20 <= minute {
-            return Grade::M20;
-        }
-        if 15 <= minute {
-            return Grade::M15;
-        }
-        if 10 <= minute {
-            return Grade::M10;
-        }
-        Grade::NONE
+        first_to(&Grade::DOWN, minute).unwrap_or(Grade::NONE)
     }
 
     // The grade of the lower of R and EI. No open call: neither is above 360.
@@ -84,6 +67,13 @@ impl Grade {
         requires { (r ≤ last_minute) × (ei ≤ last_minute) }
         ensures { result ≡ rei_of r ei }
     {
-        if r <= ei { Grade::of(r) } else { Grade::of(ei) }
+        Grade::of(r.min(ei))
     }
+}
+
+// The first of the grades that is not above the minute.
+fn first_to(grades: &[Grade], minute: u16) -> Option<Grade>
+    ensures { result ≡ find (λ g. nat_le g.minutes minute) grades.now }
+{
+    grades.iter().copied().find(|g| g.minutes <= minute)
 }

@@ -6,8 +6,8 @@ use native.Mathlib.Nat.{div-add-mod', pow-succ', zero-add, add_assoc}
 use native.Mathlib.Omega.{arith}
 use lib.Arith.{digits_div, digits_mod, digits_lt}
 use lib.ListN.{length, get_or, length-append}
-use Rattle.numbers.specs.Bytes.{number, bytes, fields, join, span, AreBytes}
-use Rattle.numbers.proofs.Places.{places, get_or_cons, places_append}
+use Rattle.numbers.specs.Bytes.{places, number, bytes, fields, join, span, AreBytes}
+use Rattle.numbers.proofs.Places.{get_or_cons, places_append}
 
 -- a byte in front moves every place up by one
 number_cons : (x : ℕ) (l : List ℕ) (at w : ℕ) → number (x ∷ l) (at + 1) w ≡ number l at w
@@ -82,7 +82,6 @@ number_below b h at (suc w) =
 
 -- the bytes of the number read are the bytes that stood there
 pub bytes_number : (b : List ℕ) → AreBytes b → (at w : ℕ) → bytes w (number b at w) ≡ places b at w
-unfolding places
 bytes_number b h at zero = refl
 bytes_number b h at (suc zero) = refl
 bytes_number b h at (suc (suc w)) =
@@ -93,7 +92,6 @@ bytes_number b h at (suc (suc w)) =
 
 -- the same for several numbers in a row
 pub join_fields : (ws b : List ℕ) → AreBytes b → (at : ℕ) → join ws (fields ws b at) ≡ places b at (span ws)
-unfolding places
 join_fields [] b h at = refl
 join_fields (w ∷ ws) b h at =
     ap₂ (λ (xs ys : List ℕ). xs ++ ys) (bytes_number b h at w) (join_fields ws b h (at + w)) ∙ sym (places_append b at w (span ws))

@@ -10,3 +10,4 @@ pub mod Lists
 -- Big-endian numbers in bytes.
 pub mod Places
 pub mod Digits
+pub mod Words

@@ -3,6 +3,11 @@
 -- several numbers in a row, so that a layout is one list of widths.
 use Rattle.std.specs.Prelude.{ℕ, zero, suc, ◌+◌, ◌*◌, ◌/◌, ◌%◌, ◌^◌, ◌<◌, List, [], ◌∷◌, ◌++◌, get_or}
 
+-- w places of b from `at` on; past the end, 0
+abbrev pub places : List ℕ → ℕ → ℕ → List ℕ
+places b at zero = []
+places b at (suc w) = get_or b at 0 ∷ places b (at + 1) w
+
 -- the number in the w bytes of b from place `at` on; a place past the end counts as 0
 abbrev pub number : List ℕ → ℕ → ℕ → ℕ
 number b at zero = 0

@@ -1,66 +1,38 @@
-// Big-endian numbers in a slice. A place past the end reads as 0, so reading needs no length.
-ghost use Rattle.std.specs.Prelude.{◌≡◌, ◌+◌, ◌≤◌, ◌<◌, length, drop};
+// Big-endian numbers in a slice. A place past the end reads as 0, so reading needs no length. A number is read by
+// `u16::from_be_bytes(bytes_at(s, at))` and written by `put(out, at, v.to_be_bytes())`, at any width.
+ghost use Rattle.std.specs.Prelude.{◌≡◌, ◌+◌, ◌≤◌, length, drop};
 ghost use Rattle.std.proofs.lemmas.List.Edits.{sets};
-ghost use Rattle.numbers.specs.Bytes.{number, bytes};
+ghost use Rattle.numbers.specs.Bytes.{number, places};
 
-use crate::sizes::lesser;
-use crate::words32::widen;
-
-pub fn get8(s: &[u8], at: usize) -> u8
+// The byte at a place.
+pub fn byte_at(s: &[u8], at: usize) -> u8
     ensures { result ≡ number s.now at 1 }
 {
-    if at < s.len() { s[at] } else { 0 }
+    s.get(at).copied().unwrap_or(0)
 }
 
-// No open call: `at` is a place of a record, so that the places after it are numbers too.
-pub fn get16(s: &[u8], at: usize) -> u16
-    requires { at < 65536 }
-    ensures { result ≡ number s.now at 2 }
+// The N bytes from `at` on.
+pub fn bytes_at<const N: usize>(s: &[u8], at: usize) -> [u8; N]
+    ensures { result ≡ places s.now at N }
 {
-    (widen(get8(s, at)) * 256 + widen(get8(s, at + 1))) as u16
-}
-
-// No open call, for the same reason.
-pub fn get32(s: &[u8], at: usize) -> u32
-    requires { at < 65536 }
-    ensures { result ≡ number s.now at 4 }
-{
-    let high = widen(get8(s, at)) * 16777216 + widen(get8(s, at + 1)) * 65536;
-    high + widen(get8(s, at + 2)) * 256 + widen(get8(s, at + 3))
-}
-
-// No open call: the two bytes from `at` on must be there.
-pub fn put16(out: &mut [u8], at: usize, v: u16)
-    requires { at + 2 ≤ length out.old }
-    ensures { out.new ≡ sets out.old at (bytes 2 v) }
-{
-    out[at] = (v / 256) as u8;
-    out[at + 1] = (v % 256) as u8;
-}
-
-// No open call: the four bytes from `at` on must be there.
-pub fn put32(out: &mut [u8], at: usize, v: u32)
-    requires { at + 4 ≤ length out.old }
-    ensures { out.new ≡ sets out.old at (bytes 4 v) }
-{
-    out[at] = (v / 16777216) as u8;
-    out[at + 1] = (v % 16777216 / 65536) as u8;
-    out[at + 2] = (v % 16777216 % 65536 / 256) as u8;
-    out[at + 3] = (v % 16777216 % 65536 % 256) as u8;
+    let there = part_from(s, at);
+    let n = there.len().min(N);
+    let mut bytes = [0u8; N];
+    bytes[..n].copy_from_slice(&there[..n]);
+    bytes
 }
 
 // The slice from `at` on; nothing where it ends before.
 pub fn part_from(s: &[u8], at: usize) -> &[u8]
     ensures { result.now ≡ drop at s.now }
 {
-    let from = lesser(at, s.len());
-    &s[from..]
+    &s[at.min(s.len())..]
 }
 
-// No open call: the byte must be there.
-pub fn put8(out: &mut [u8], at: usize, v: u8)
-    requires { at + 1 ≤ length out.old }
-    ensures { out.new ≡ sets out.old at (bytes 1 v) }
+// No open call: the N bytes from `at` on must be there.
+pub fn put<const N: usize>(out: &mut [u8], at: usize, bytes: [u8; N])
+    requires { at + N ≤ length out.old }
+    ensures { out.new ≡ sets out.old at bytes.entry }
 {
-    out[at] = v;
+    out[at..at + N].copy_from_slice(&bytes);
 }

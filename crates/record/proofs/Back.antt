@@ -7,9 +7,9 @@ use native.Mathlib.Nat.{mul-suc, zero-add, add-zero}
 use lib.ListN.{length, drop}
 use lib.Seq.{get_or-drop}
 use Rattle.numbers.specs.Bytes.{join}
-use Rattle.numbers.specs.Bytes.{AreBytes}
+use Rattle.numbers.specs.Bytes.{places, AreBytes}
 use Rattle.numbers.proofs.Digits.{join_fields}
-use Rattle.numbers.proofs.Places.{places, places_append, places_drop, places_all}
+use Rattle.numbers.proofs.Places.{places_append, places_drop, places_all}
 use Rattle.panel.specs.Lamellae
 use Rattle.panel.specs.Boards.{boards_of}
 use Rattle.record.specs.Layouts.{
@@ -51,7 +51,7 @@ drop_bytes b h k i = rw get_or-drop (h (k + i))
 -- the bytes of the boards are those that stood after the head
 boards_back :
     (c : ℕ) (t : List ℕ) → AreBytes t → c ≤ 2 → board_bytes (boards_of (cladding_at c t)) ≡ places t head_length (board_length * c)
-unfolding board_bytes places
+unfolding board_bytes
 boards_back zero t h l = refl
 boards_back (suc zero) t h l = join_fields board_widths t h head_length
 boards_back (suc (suc zero)) t h l =
@@ -61,7 +61,7 @@ boards_back (suc (suc (suc c))) t h l = absurd (let z : ⊥ = omega arith in z)
 
 -- the bytes of the lamellae are the lamella bytes
 lamellae_back : (u : List ℕ) → AreBytes u → (n : ℕ) → lamella_bytes (lamellae_in u n) ≡ places u 0 (lamella_length * n)
-unfolding lamellae_in lamella_bytes places
+unfolding lamellae_in lamella_bytes
 lamellae_back u h zero = refl
 lamellae_back u h (suc n) =
     let at : ℕ = lamella_length * n in
@@ -103,7 +103,7 @@ unfolding panel_of
 head_back b h = rw (boards_counted (count_of_boards b) (body b) h) refl
 
 pub encode_back : (b : List ℕ) → AreBytes b → Sound b → encode (panel_of b) ≡ b
-unfolding encode panel_of places
+unfolding encode panel_of
 encode_back b h s =
     let v = version_of b in
     let c = count_of_boards b in

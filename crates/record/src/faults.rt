@@ -5,13 +5,14 @@ ghost use Rattle.record.specs.Refusals.{bad_length, bad_board_count, bad_whole, 
 use crate::layout;
 use crate::reader::{board_count, lamella_count, version_of};
 use limits::ByteFaults;
-use numbers::bytes::get16;
+use numbers::bytes::bytes_at;
 
 fn bad_length(s: &[u8]) -> bool
     ensures { result ≡ bad_length s.now }
 {
     let n = s.len();
-    ((n < layout::SHORTEST) | (layout::LONGEST < n)) | !(get16(s, layout::LENGTH) as usize == n)
+    ((n < layout::SHORTEST) | (layout::LONGEST < n))
+        | !(usize::from(u16::from_be_bytes(bytes_at(s, layout::LENGTH))) == n)
 }
 
 fn bad_board_count(s: &[u8]) -> bool

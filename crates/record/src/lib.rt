@@ -7,7 +7,8 @@ mod layout;
 mod reader;
 mod writer;
 
-// The arrays of a panel's lamellae.
+// The arrays of a panel's lamellae, as one loop fills them. A tuple would lose the names that contracts use; `array::from_fn` takes a
+// function for each array, and the two would differ in the field alone.
 #[derive(Clone, Copy)]
 pub struct Lamellae {
     pub directions: [u8; 9],

@@ -1,6 +1,6 @@
 -- `record::writer::put_lamellae` meets its contract: after i turns the first i lamellae are stored.
 use Prim.Native.Nat.{ℕ, ◌+◌, ◌*◌}
-use Rattle.numbers.proofs.Lists.{then_put}
+use Rattle.numbers.proofs.Lists.{then_put, rest_stored}
 use Rattle.numbers.specs.Bytes.{join}
 use Rattle.panel.proofs.Used.{length_lamellae_of}
 use Rattle.panel.specs.Lamellae.{lamella, lamellae_of}
@@ -8,33 +8,23 @@ use Rattle.record.proofs.Lengths.{length_lamella_bytes, lamella_bytes_more}
 use Rattle.record.specs.Layouts.{lamella_widths, lamella_length, lamella_numbers, lamella_bytes}
 use lib.ListN.{length, get_or}
 use lib.Seq.{sets}
-use mathlib.Core.Path.{refl, sym, ap, ◌∙◌, ◌≡◌}
+use mathlib.Core.List.{List}
+use mathlib.Core.Path.{sym, ap, ◌∙◌, ◌≡◌}
 use native.Mathlib.Numerals.{add-one}
 use native.Mathlib.Omega.{arith}
 use Rattle.record.proofs.writer.put_lamellae.Goals as goal
 
-pub loop-i-init : goal.loop-i-init
-unfolding lamellae_of lamella_bytes
-loop-i-init c = (omega arith, (refl, refl))
-
 pub loop-i-preserved : goal.loop-i-preserved
 unfolding lamellae_of
 loop-i-preserved c =
-    let put = c.put_lamella in
     let args = c.args in
-    let gs = args.directions in
-    let ts = args.thicknesses in
+    let gs = args.directions.now in
+    let ts = args.thicknesses.now in
     let i = c.loop-i.i in
     let xs = lamellae_of gs ts i in
     let x = lamella (get_or gs i 0) (get_or ts i 0) in
-    let e : args.at + lamella_length * i ≡ args.at + length (lamella_bytes xs) = omega (arith, length_lamella_bytes xs, length_lamellae_of gs ts i) in (
-      omega arith,
-      (
-        put.auto.out ∙ c.loop-i.invariant.1.0,
-        then_put args.out.now c.loop-i.out put.new.out args.at (lamella_bytes xs) (args.at + lamella_length * i)
-            (join lamella_widths (lamella_numbers x))
-            c.loop-i.invariant.1.1 e put.ensures
-            ∙ ap (sets args.out.now args.at) (sym (lamella_bytes_more xs x)
-            ∙ ap (λ (k : ℕ). lamella_bytes (lamellae_of gs ts k)) (sym (add-one i))),
-      ),
-    )
+    let new : List ℕ = join lamella_widths (lamella_numbers x) in
+    let e : lamella_length * i ≡ 0 + length (lamella_bytes xs) = omega (arith, length_lamella_bytes xs, length_lamellae_of gs ts i) in
+    then_put args.out.now c.loop-i.out _ 0 (lamella_bytes xs) (lamella_length * i) new c.loop-i.invariant e
+    (rest_stored c.loop-i.out c.put_lamella.new.out new (lamella_length * i) (omega arith) c.put_lamella.ensures)
+    ∙ ap (sets args.out.now 0) (sym (lamella_bytes_more xs x) ∙ ap (λ (k : ℕ). lamella_bytes (lamellae_of gs ts k)) (sym (add-one i)))

@@ -1,16 +1,10 @@
 -- `record::writer::put_lamellae` meets its contract: after i turns the first i lamellae are stored.
 -- Assumes nothing.
-use Prim.Native.Nat.{◌-◌, ◌≤◌}
 use Rattle.panel.specs.Lamellae.{lamellae_of}
 use Rattle.record.specs.Layouts.{lamella_bytes}
-use lib.ListN.{length}
 use lib.Seq.{sets}
 use mathlib.Core.Path.{◌≡◌}
 use Rattle.record.proofs.writer.put_lamellae.Given as goal
 
 abbrev pub invariant-loop-i : goal.invariant-loop-i
-invariant-loop-i l = (l.i ≤ l.count) × ((length l.out ≡ length l.initial.out) × (l.out ≡ sets l.initial.out l.at
-    (lamella_bytes (lamellae_of l.directions l.thicknesses l.i))))
-
-abbrev pub decreases-loop-i : goal.decreases-loop-i
-decreases-loop-i l = l.count - l.i
+invariant-loop-i l = l.out ≡ sets l.initial.out 0 (lamella_bytes (lamellae_of l.directions l.thicknesses l.i))
