@@ -1,12 +1,10 @@
 // The open calls of this crate: they ask nothing of their caller. Depths and phases are those of the fire that is shown.
 ghost use Rattle.std.specs.Prelude.{◌≡◌};
+ghost use Rattle.panel.specs.Faces.{shown};
+ghost use Rattle.limits.specs.Refusals.{panel_refusal};
 ghost use Rattle.charring.specs.Answers.{minute_refusal, phase_answer, char_answer, effective_answer, table_answer, table_after};
 
-use crate::depths::{micrometres_in, tenths_in};
-use crate::fires::fire_of;
-use crate::phases::phase_at;
-use crate::table::fill;
-use crate::{DepthAnswer, ENTRIES, PhaseAnswer, TableAnswer};
+use crate::{DepthAnswer, ENTRIES, Fire, PhaseAnswer, TableAnswer, Time};
 use limits::LAST_MINUTE;
 use limits::calls::panel_refusal;
 use limits::table::line_or;
@@ -24,6 +22,14 @@ pub fn minute_refusal(p: Panel, minute: u16) -> u8
     line_or(15, LAST_MINUTE < minute, 0)
 }
 
+// The fire that is shown. No open call: the panel must be accepted.
+fn shown_fire(p: Panel) -> Fire
+    requires { panel_refusal p ≡ 0 }
+    ensures { result.panel ≡ shown p }
+{
+    Fire::of(shown(p))
+}
+
 // The phase at a whole minute.
 pub fn phase(p: Panel, minute: u16) -> PhaseAnswer
     ensures { result ≡ phase_answer p minute }
@@ -32,7 +38,7 @@ pub fn phase(p: Panel, minute: u16) -> PhaseAnswer
     if n != 0 {
         return PhaseAnswer::Refused(n);
     }
-    PhaseAnswer::At(phase_at(shown(p), minute as u64))
+    PhaseAnswer::At(shown_fire(p).phase(Time::minute(u64::from(minute))))
 }
 
 // The char depth at a whole minute, in micrometres, rounded up.
@@ -43,8 +49,7 @@ pub fn char_depth(p: Panel, minute: u16) -> DepthAnswer
     if n != 0 {
         return DepthAnswer::Refused(n);
     }
-    let exposed = shown(p);
-    DepthAnswer::Depth(micrometres_in(exposed, fire_of(exposed), minute as u64))
+    DepthAnswer::Depth(shown_fire(p).micrometres(u64::from(minute)))
 }
 
 // The effective depth at a whole minute, in tenths of mm, rounded up.
@@ -55,8 +60,7 @@ pub fn effective_depth(p: Panel, minute: u16) -> DepthAnswer
     if n != 0 {
         return DepthAnswer::Refused(n);
     }
-    let exposed = shown(p);
-    DepthAnswer::Depth(tenths_in(exposed, fire_of(exposed), minute as u64, 1))
+    DepthAnswer::Depth(shown_fire(p).tenths(Time::minute(u64::from(minute))))
 }
 
 // The char depths of minutes 0 to 360 in micrometres, rounded up, into the lent space.
@@ -71,6 +75,6 @@ pub fn depth_table(p: Panel, out: &mut [u32]) -> TableAnswer
     if out.len() < ENTRIES {
         return TableAnswer::Refused(14);
     }
-    fill(shown(p), out);
+    shown_fire(p).fill(out);
     TableAnswer::Filled
 }

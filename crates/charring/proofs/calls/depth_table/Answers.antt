@@ -1,8 +1,7 @@
 -- `charring::calls::depth_table` meets its contract: the table is filled where no line and no want of space turns the call
 -- back. Assumes nothing.
-use Rattle.charring.proofs.Replies.{shown_fits, short, table_short, table_turned, table_filled}
+use Rattle.charring.proofs.Replies.{short, table_short, table_turned, table_filled}
 use Rattle.charring.specs.Answers.{depth_table, table_refusal}
-use Rattle.limits.proofs.Accepted.{accepted_fits}
 use Rattle.limits.proofs.FirstLine.{turned_above}
 use Rattle.limits.specs.Refusals.{panel_lines, panel_refusal}
 use Rattle.panel.specs.declared.Panel.{Panel}
@@ -28,20 +27,12 @@ returns-then-out-lt-ENTRIES c =
     (table_short a.p a.out.now (sym c.panel_refusal-n.ensures ∙ c.if-n-ne0.false) c.if-out-lt-ENTRIES.true) (eqb-false 14 0 refl) in
     record { value = both.0; out_after = both.1 }
 
-pub shown-requires : goal.shown-requires
-shown-requires c =
-    (accepted_fits c.args.p (sym c.panel_refusal-n.ensures ∙ c.if-n-ne0.false)).count
-
-pub fill-requires : goal.fill-requires
-fill-requires c =
-    record {
-      fire_fits = shown_fits c.args.p c.shown.result (sym c.panel_refusal-n.ensures ∙ c.if-n-ne0.false) c.shown.ensures;
-      table_length_in_bounds = c.if-out-lt-ENTRIES.false;
-    }
+pub shown_fire-requires : goal.shown_fire-requires
+shown_fire-requires c = sym c.panel_refusal-n.ensures ∙ c.if-n-ne0.false
 
 pub returns : goal.returns
 returns c =
     let a = c.args in
     let both = table_filled a.p a.out.now c.fill.new.out (sym c.panel_refusal-n.ensures ∙ c.if-n-ne0.false)
-    c.if-out-lt-ENTRIES.false (c.fill.ensures ∙ ap (λ (q : Panel). depth_table q ++ drop 361 a.out.now) c.shown.ensures) in
+    c.if-out-lt-ENTRIES.false (c.fill.ensures ∙ ap (λ (q : Panel). depth_table q ++ drop 361 a.out.now) c.shown_fire.ensures) in
     record { value = both.0; out_after = both.1 }
