@@ -3,9 +3,10 @@ use Prim.Native.Nat.{ℕ, ◌+◌, ◌-◌, ◌*◌, min}
 use mathlib.Core.Path.{◌≡◌}
 use native.Mathlib.Omega.{arith}
 use native.Mathlib.Nat.{mul_assoc}
+use Rattle.panel.specs.declared.Panel.{Panel}
 use Rattle.charring.specs.declared.Fire.{Fire}
 use Rattle.charring.specs.Fires.{back_face}
-use Rattle.charring.specs.Depths.{char_at, after_at, effective_at}
+use Rattle.charring.specs.Depths.{char_at, after_at, effective_at, tenths_at}
 
 pub char_is : (f : Fire) (n q early under back : ℕ) → early ≡ min (1000 * n - q * f.start) (q * (f.failure - f.start))
     → under ≡ 2 * f.slow * early → back ≡ q * f.back → min (under + after_at f.panel n q) (2 * back) ≡ char_at f.panel n q
@@ -20,3 +21,7 @@ pub effective_is : (f : Fire) (n q full back : ℕ) → full ≡ q * f.full → 
     → min (f.full * char_at f.panel n q + 14000000000 * min (1000 * n) full) (2 * f.full * back) ≡ effective_at f.panel n q
 unfolding effective_at
 effective_is f n q full back e b = rw (e, bottom_is f.full q f.back back b, f.full_is, f.back_is)
+
+-- the same time of the same panel
+pub tenths_same : {p r : Panel} {n m q d : ℕ} → p ≡ r → n ≡ m → q ≡ d → tenths_at p n q ≡ tenths_at r m d
+tenths_same e h k = rw (e, h, k)
