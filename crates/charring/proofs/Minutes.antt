@@ -8,10 +8,10 @@ use Rattle.charring.specs.declared.Fire.{Fire}
 use Rattle.charring.specs.Fires.{back_face}
 use Rattle.charring.specs.Depths.{char_at, after_at, effective_at, tenths_at}
 
-pub char_is : (f : Fire) (n q early under back : ℕ) → early ≡ min (1000 * n - q * f.start) (q * (f.failure - f.start))
-    → under ≡ 2 * f.slow * early → back ≡ q * f.back → min (under + after_at f.panel n q) (2 * back) ≡ char_at f.panel n q
+pub char_is : (f : Fire) (n q early back : ℕ) → early ≡ min (1000 * n - q * f.start) (q * (f.failure - f.start)) → back ≡ q * f.back
+    → min (2 * f.slow * early + after_at f.panel n q) (2 * back) ≡ char_at f.panel n q
 unfolding char_at
-char_is f n q early under back e u b = rw (u, e, b, f.slow_is, f.start_is, f.failure_is, f.back_is, ← mul_assoc 2 q (back_face f.panel))
+char_is f n q early back e b = rw (e, b, f.slow_is, f.start_is, f.failure_is, f.back_is, ← mul_assoc 2 q (back_face f.panel))
 
 -- the back face times q and `full`
 pub bottom_is : (full q back r : ℕ) → r ≡ q * back → 2 * full * r ≡ 2 * q * full * back

@@ -4,7 +4,6 @@ ghost use Rattle.limits.specs.Causes.{last_minute};
 ghost use Rattle.charring.specs.Fires.{tenth};
 ghost use Rattle.charring.specs.Depths.{char_at, effective_at, micrometres_at, tenths_at, round_up};
 
-use crate::walk::twice_run;
 use crate::{Fire, Time};
 
 // No open call: the divisor must be there, and what comes out must fit.
@@ -24,7 +23,7 @@ impl Fire {
     {
         let early = (1000 * at.n).saturating_sub(at.scaled(self.start));
         let slow = early.min(at.scaled(self.failure - self.start));
-        let under = twice_run(self.slow, slow);
+        let under = 2 * self.slow * slow;
         (under + self.after(at)).min(2 * at.scaled(self.back))
     }
 

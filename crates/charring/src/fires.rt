@@ -5,8 +5,8 @@ ghost use Rattle.charring.specs.Fires.{fast_run, start_of, failure_of, k2, clad,
 ghost use Rattle.charring.specs.Fits.{FireFits};
 ghost use Rattle.charring.specs.Ways.{lines_left};
 
-use crate::Fire;
 use crate::lines::Lines;
+use crate::{FAST_RUN, Fire, TENTH};
 use limits::causes::total_thickness;
 use panel::boards::{charring_start, type_f};
 use panel::timber::rate_of;
@@ -46,27 +46,12 @@ fn failure_of(p: Panel, start: u64) -> u64
     }
 }
 
-fn slow_rate(factor: u64, rate: u64) -> u64
-    requires { (factor ≤ 10000) × (rate ≤ 100) }
-    ensures { (result ≡ factor * rate) × (result ≤ 1000000) }
-{
-    factor * rate
-}
-
-// How far a rate of at most 1 mm a minute comes in at most six hours.
-fn run_of(rate: u64, time: u64) -> u64
-    requires { (rate ≤ 1000000) × (time ≤ 360000) }
-    ensures { (result ≡ rate * time) × (result ≤ 360000000000) }
-{
-    rate * time
-}
-
 fn intact_end(behind: bool, start: u64, failure: u64, plain: u64) -> u64
     requires { (plain ≤ 1000000) × (failure ≤ 360000) }
     ensures { result ≡ pick behind (pick (eqb start failure) (min (2 * plain * failure) fast_run) fast_run) 0 }
 {
-    let early = (2 * run_of(plain, failure)).min(25000000000);
-    let end = if start == failure { early } else { 25000000000 };
+    let early = (2 * plain * failure).min(FAST_RUN);
+    let end = if start == failure { early } else { FAST_RUN };
     if behind { end } else { 0 }
 }
 
@@ -92,8 +77,8 @@ impl Fire {
         let start = start_of(panel);
         let failure = failure_of(panel, start);
         let rate = rate_of(panel);
-        let slow = slow_rate(k2_of(panel.cladding), rate);
-        let depth = run_of(slow, failure - start);
+        let slow = k2_of(panel.cladding) * rate;
+        let depth = slow * (failure - start);
         let intact = intact_end(is_clad(panel.cladding), start, failure, 10000 * rate);
         Fire {
             panel,
@@ -103,7 +88,7 @@ impl Fire {
             plain: 10000 * rate,
             depth,
             end: passed_end(Lines::of(&panel), depth, intact),
-            back: 100000000 * u64::from(total_thickness(panel.thicknesses, panel.count)),
+            back: TENTH * u64::from(total_thickness(panel.thicknesses, panel.count)),
             full: start.max(20000),
         }
     }

@@ -18,6 +18,11 @@ mod walk;
 use limits::LAST_MINUTE;
 use panel::Panel;
 
+// A tenth of mm, and the 25 mm of a fast run, in picometres.
+const TENTH: u64 = 100000000;
+
+const FAST_RUN: u64 = 25000000000;
+
 // The entries of a depth table: one for each minute.
 const ENTRIES: usize = LAST_MINUTE as usize + 1;
 

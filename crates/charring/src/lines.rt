@@ -5,6 +5,7 @@ ghost use Rattle.charring.specs.Fires.{tenth, fast_run, lines_from, line_end};
 ghost use Rattle.charring.specs.Fits.{FireFits};
 ghost use Rattle.charring.specs.Lines.{lain};
 
+use crate::{FAST_RUN, TENTH};
 use panel::Panel;
 
 // A line: its depth, and where a run that starts there ends.
@@ -29,9 +30,9 @@ fn run_end(line: u64, rest: &[u16]) -> u64
     requires { line ≤ 400000000000 }
     ensures { (result ≡ line_end line (lines_from line (lain rest.now))) × (result ≤ line + fast_run) }
 {
-    let past = line + 25000000000;
+    let past = line + FAST_RUN;
     match rest {
-        [next, _, ..] => past.min(line + 100000000 * u64::from(*next)),
+        [next, _, ..] => past.min(line + TENTH * u64::from(*next)),
         _ => past,
     }
 }
@@ -71,7 +72,7 @@ impl Iterator for Lines<'_> {
             // The back face is no line.
             return None;
         }
-        let at = self.top + 100000000 * u64::from(*first);
+        let at = self.top + TENTH * u64::from(*first);
         self.top = at;
         self.rest = rest;
         Some(Line {

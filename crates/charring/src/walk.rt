@@ -7,21 +7,6 @@ ghost use Rattle.charring.specs.Ways.{Crossed, Passed};
 use crate::lines::{Line, Lines};
 use crate::{Fire, Place, Time};
 
-// Twice what a rate of at most 1 mm a minute adds in at most six hours, times q.
-pub(crate) fn twice_run(rate: u64, time: u64) -> u64
-    requires { (rate ≤ 1000000) × (time ≤ 21600000) }
-    ensures { (result ≡ 2 * rate * time) × (result ≤ 2000000 * time) }
-{
-    2 * rate * time
-}
-
-fn gain_on(left: u64, fast: u64, settled: u64) -> u64
-    requires { (left ≤ 43200000000000) × (settled ≤ 24000000000000) }
-    ensures { (result ≡ 2 * min left fast + min (left - fast) (2 * settled)) × (result + 2 * (left - fast - 2 * settled) ≤ 2 * left) }
-{
-    2 * left.min(fast) + left.saturating_sub(fast).min(2 * settled)
-}
-
 impl Place {
     // The parts of the stretch from here to a depth, times q.
     pub(crate) fn fast_part(self, to: u64, at: Time) -> u64
@@ -45,11 +30,12 @@ impl Place {
     {
         let fast = self.fast_part(to, at);
         let settled = self.settled_part(to, at);
+        let past_fast = self.left.saturating_sub(fast);
         Place {
             from: to,
             end,
-            left: self.left.saturating_sub(fast).saturating_sub(2 * settled),
-            gained: self.gained + gain_on(self.left, fast, settled),
+            left: past_fast.saturating_sub(2 * settled),
+            gained: self.gained + 2 * self.left.min(fast) + past_fast.min(2 * settled),
         }
     }
 
@@ -75,7 +61,7 @@ impl Fire {
         Place {
             from: self.depth,
             end: self.end,
-            left: twice_run(self.plain, late),
+            left: 2 * self.plain * late,
             gained: 0,
         }
     }

@@ -7,5 +7,5 @@ pub returns : goal.returns
 returns c =
     let f = c.args.self.now in
     let at = c.args.at in
-    let is = char_is f at.n at.q c.min-slow.result c.twice_run-under.result c.scaled-3.result (cc) c.twice_run-under.ensures.0 c.scaled-3.ensures.0 in
+    let is = char_is f at.n at.q c.min-slow.result c.scaled-3.result (cc) c.scaled-3.ensures.0 in
     (cc, omega arith)

@@ -3,16 +3,16 @@ use Prim.Native.Nat.{ℕ, ◌-◌, ◌*◌}
 use native.Mathlib.Omega.{arith}
 use Rattle.charring.proofs.Numbers.{slow_most, depth_most, end_most}
 use Rattle.charring.specs.Fires.{slow_rate, depth_at_failure, intact_end, first_end}
-use mathlib.Core.Path.{◌≡◌, ap, ap₂, ◌∙◌}
+use mathlib.Core.Path.{◌≡◌, ap, ◌∙◌}
 use Rattle.charring.proofs.Fire.of.Goals as goal
 
 pub invariant_of-result : goal.invariant_of-result
 unfolding first_end intact_end
 invariant_of-result c =
     let p = c.args.panel in
-    let slow : c.slow_rate-slow.result ≡ slow_rate p = c.slow_rate-slow.ensures.0 ∙ ap₂ (λ (k r : ℕ). k * r) c.k2_of.ensures c.rate_of-rate.ensures.0 in
-    let time = ap₂ (λ (x y : ℕ). x - y) c.failure_of-failure.ensures c.start_of-start.ensures in
-    let depth : c.run_of-depth.result ≡ depth_at_failure p = c.run_of-depth.ensures.0 ∙ ap₂ (λ (x y : ℕ). x * y) slow time in
+    let slow : c.k2_of.result * c.rate_of-rate.result ≡ slow_rate p = rw (c.k2_of.ensures, c.rate_of-rate.ensures.0) in
+    let depth : c.k2_of.result * c.rate_of-rate.result * (c.failure_of-failure.result - c.start_of-start.result) ≡ depth_at_failure p =
+    rw (c.k2_of.ensures, c.rate_of-rate.ensures.0, c.failure_of-failure.ensures, c.start_of-start.ensures) in
     let intact : c.intact_end-intact.result ≡ intact_end p = c.intact_end-intact.ensures
     ∙ rw (c.is_clad.ensures, c.rate_of-rate.ensures.0, c.failure_of-failure.ensures, c.start_of-start.ensures) in
     let end : c.passed_end.result ≡ first_end p = c.passed_end.ensures ∙ rw (c.of.ensures, depth, intact) in
