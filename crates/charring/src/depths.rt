@@ -37,7 +37,8 @@ impl Fire {
 
     // The effective depth, half picometres times q and `full`: at most 6·10^18.
     fn effective(&self, at: Time) -> u64
-        ensures { (result ≡ effective_at self.now.panel at.n at.q) × (result ≤ 2 * at.q * self.now.full * self.now.back) }
+        ensures value { result ≡ effective_at self.now.panel at.n at.q }
+        ensures most { (result ≤ 2 * at.q * self.now.full * self.now.back) × (result ≤ 6000000000000000000) }
     {
         let char = self.full * self.char(at);
         let time = 1000 * at.n;

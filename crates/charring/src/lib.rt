@@ -7,8 +7,8 @@ ghost use Rattle.charring.specs.Depths.{full_at};
 ghost use Rattle.charring.specs.Fits.{FireFits, TimeFits};
 
 pub mod calls;
-pub mod depths;
-pub mod fires;
+mod depths;
+mod fires;
 mod lines;
 mod phases;
 mod table;
@@ -18,9 +18,10 @@ mod walk;
 use limits::LAST_MINUTE;
 use panel::Panel;
 
-// A tenth of mm, and the 25 mm of a fast run, in picometres.
+// A tenth of mm, in picometres.
 const TENTH: u64 = 100000000;
 
+// 25 mm, in picometres: how far a fast run goes.
 const FAST_RUN: u64 = 25000000000;
 
 // The entries of a depth table: one for each minute.
