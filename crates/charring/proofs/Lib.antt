@@ -18,10 +18,10 @@ pub mod Unused
 pub mod SameBuild
 -- What the functions need.
 pub mod Numbers
+pub mod ByThickness
 pub mod Ways
-pub mod Crossing
 pub mod Onward
 pub mod PassedLines
-pub mod PhaseTests
 pub mod Minutes
+pub mod PhaseTests
 pub mod Replies

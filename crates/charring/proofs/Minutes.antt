@@ -1,30 +1,27 @@
 -- Depths at n/q minutes: what is worked out from the numbers that are the same at every minute is what the definitions say.
-use Prim.Native.Nat.{ℕ, ◌+◌, ◌-◌, ◌*◌, ◌/◌, ◌<◌, ◌≤◌}
-use mathlib.Core.Path.{◌≡◌, ◌∙◌}
+use Prim.Native.Nat.{ℕ, ◌+◌, ◌-◌, ◌*◌, min}
+use mathlib.Core.Path.{◌≡◌}
 use native.Mathlib.Omega.{arith}
-use native.Mathlib.Nat.{div-lt_iff_lt-mul}
+use native.Mathlib.Nat.{mul_assoc}
 use Rattle.panel.specs.declared.Panel.{Panel}
 use Rattle.charring.specs.declared.Fire.{Fire}
-use Rattle.charring.specs.Fires.{tenth}
-use Rattle.charring.specs.Depths.{char_at, effective_at, round_up, tenths_at}
-use Rattle.charring.specs.Fits.{FireOf, CharOf, EffectiveOf}
-use Rattle.numbers.proofs.Products.{times}
+use Rattle.charring.specs.Fires.{back_face}
+use Rattle.charring.specs.Depths.{char_at, after_at, effective_at, tenths_at}
 
-pub char_is : (p : Panel) (f : Fire) (n q r : ℕ) → FireOf p f → CharOf p f n q r → r ≡ char_at p n q
+pub char_is : (f : Fire) (n q early back : ℕ) → early ≡ min (1000 * n - q * f.start) (q * (f.failure - f.start)) → back ≡ q * f.back
+    → min (2 * f.slow * early + after_at f.panel n q) (2 * back) ≡ char_at f.panel n q
 unfolding char_at
-char_is p f n q r o h = h.depth ∙ rw (o.slow, o.start, o.failure, o.plain, o.back)
-
-pub tenths_is : (p : Panel) (f : Fire) (n q char e r : ℕ) → FireOf p f → char ≡ char_at p n q
-    → EffectiveOf char (1000 * n) q f.full f.back e → r ≡ round_up e (2 * tenth * (q * f.full)) → r ≡ tenths_at p n q
-unfolding effective_at
-tenths_is p f n q char e r o c d h = h ∙ rw (d.depth, c, o.full, o.back)
-
--- the tenths fit 32 bits
-pub rounded_fits : (n d : ℕ) → 20000 ≤ d → n ≤ 2 * d * 400000000000 → (n + (200000000 * d - 1)) / (200000000 * d) < 4294967296
-rounded_fits n d h k =
-    let pos : 0 < 200000000 * d = omega arith in
-    (div-lt_iff_lt-mul {k = 200000000 * d} {x = n + (200000000 * d - 1)} {y = 4294967296} pos).1 (omega arith)
+char_is f n q early back e b = rw (e, b, f.slow_is, f.start_is, f.failure_is, f.back_is, ← mul_assoc 2 q (back_face f.panel))
 
 -- the back face times q and `full`
-pub back_most : (q full back : ℕ) → back ≤ 400000000000 → 2 * q * full * back ≤ 2 * (q * full) * 400000000000
-back_most q full back h = omega (arith, times (2 * q * full) (2 * q * full) back 400000000000 (omega arith) h)
+pub bottom_is : (full q back r : ℕ) → r ≡ q * back → 2 * full * r ≡ 2 * q * full * back
+bottom_is full q back r e = rw e (omega arith)
+
+pub effective_is : (f : Fire) (n q full back : ℕ) → full ≡ q * f.full → back ≡ q * f.back
+    → min (f.full * char_at f.panel n q + 14000000000 * min (1000 * n) full) (2 * f.full * back) ≡ effective_at f.panel n q
+unfolding effective_at
+effective_is f n q full back e b = rw (e, bottom_is f.full q f.back back b, f.full_is, f.back_is)
+
+-- the same time of the same panel
+pub tenths_same : {p r : Panel} {n m q d : ℕ} → p ≡ r → n ≡ m → q ≡ d → tenths_at p n q ≡ tenths_at r m d
+tenths_same e h k = rw (e, h, k)

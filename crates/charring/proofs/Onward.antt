@@ -1,162 +1,101 @@
 -- The phase on the way through the panel, line by line: what will come out stays the same.
 use Prim.Native.Nat.{ℕ, ◌+◌, ◌-◌, ◌*◌, ◌<◌, ◌≤◌, min, max}
-use mathlib.Core.Path.{◌≡◌, refl, sym, ap, ◌∙◌}
-use mathlib.Core.Bool.{Bool, true, false, ◌&&◌}
+use mathlib.Core.Path.{◌≡◌, refl}
+use mathlib.Core.Bool.{Bool, true, false}
 use mathlib.Core.List.{List, [], ◌∷◌}
 use native.Mathlib.Omega.{arith}
-use native.Mathlib.Nat.{one-mul}
-use borrow.Author.Tests.{le-ltb, lt-ltb, leb-true, leb-false, ltb-true, ltb-false}
-use lib.ListN.{drop, get_or}
-use lib.Dec.{eqb, leb, ltb}
-use Rattle.numbers.proofs.Booleans.{and_left, and_right}
+use native.Mathlib.Decide.{dec_lt}
+use borrow.Author.Tests.{le-ltb, lt-ltb, leb-true, leb-false}
+use lib.Dec.{leb, ltb}
 use Rattle.panel.specs.declared.Panel.{Panel}
-use Rattle.panel.specs.Lamellae.{lamellae, lamellae_of, thickness}
-use Rattle.charring.specs.declared.Fire.{Fire}
-use Rattle.charring.specs.Fires.{tenth, back_face, lines_from, bond_lines, line_end}
+use Rattle.charring.specs.declared.Phase.{Phase}
+use Rattle.charring.specs.declared.Place.{Place}
+use Rattle.charring.specs.declared.lines.Line.{Line}
+use Rattle.charring.specs.Fires.{depth_at_failure, first_end, back_face, bond_lines, line_end}
 use Rattle.charring.specs.Stages.{Stretch, stretches, way, fast_part, settled_part}
 use Rattle.charring.specs.Phases.{phase_on}
-use Rattle.charring.specs.Fits.{FireOf, FireBounds, LineEnd, phase_in}
-use Rattle.charring.proofs.Ways.{lines_if, to_line, past_line_lem, no_line, line_here, end_here, next_ends, bond_lines_lem}
+use Rattle.charring.specs.Fits.{phase_in}
+use Rattle.charring.specs.Ways.{Passed}
+use Rattle.charring.proofs.Ways.{to_line, past_line_lem}
 
--- within a stretch
-in_stretch : (s : Stretch) (ss : List Stretch) (x : ℕ) → x < fast_part s + 2 * settled_part s
-    → phase_in (ltb x (fast_part s)) s.end ≡ phase_on (s ∷ ss) x 1
-unfolding phase_on
-in_stretch s ss x h = go (ltb x (fast_part s)) refl
-  where
-    both : (x f d : ℕ) → x < f + 2 * d → ltb x (1 * f + 2 * 1 * d) ≡ true
-    both x f d h = lt-ltb x (1 * f + 2 * 1 * d) (omega arith)
+module _ (q : ℕ) (s : Stretch) (ss : List Stretch) (x fast settled : ℕ) (f : fast ≡ q * fast_part s) (d : settled ≡ q * settled_part s) where
+  -- within a stretch
+  in_stretch : x < fast + 2 * settled → phase_in (ltb x fast) s.end ≡ phase_on (s ∷ ss) x q
+  unfolding phase_on
+  in_stretch h = rw f (go (ltb x (q * fast_part s)) refl)
+    where
+      both : ltb x (q * fast_part s + 2 * q * settled_part s) ≡ true
+      both = lt-ltb x (q * fast_part s + 2 * q * settled_part s) (omega arith)
 
-    go : (b : Bool) → ltb x (fast_part s) ≡ b → phase_in b s.end ≡ phase_on (s ∷ ss) x 1
-    go true e =
-        let e' : ltb x (1 * fast_part s) ≡ true = ap (ltb x) (one-mul (fast_part s)) ∙ e in
-        rw (phase_on, e')
-    go false e =
-        let e' : ltb x (1 * fast_part s) ≡ false = ap (ltb x) (one-mul (fast_part s)) ∙ e in
-        rw (phase_on, e', both x (fast_part s) (settled_part s) h)
+      go : (b : Bool) → ltb x (q * fast_part s) ≡ b → phase_in (ltb x (q * fast_part s)) s.end ≡ phase_on (s ∷ ss) x q
+      go true e = rw (phase_on, e)
+      go false e = rw (phase_on, e, both)
 
--- past a stretch
-past_stretch : (s : Stretch) (ss : List Stretch) (x y : ℕ) → fast_part s + 2 * settled_part s ≤ x → y ≡ x - (fast_part s + 2 * settled_part s)
-    → phase_on ss y 1 ≡ phase_on (s ∷ ss) x 1
-unfolding phase_on
-past_stretch s ss x y h e =
-    rw (phase_on, fast x (fast_part s) (settled_part s) h, both x (fast_part s) (settled_part s) h)
-    (ap (λ (z : ℕ). phase_on ss z 1) (e ∙ left x (fast_part s) (settled_part s)))
-  where
-    fast : (x f d : ℕ) → f + 2 * d ≤ x → ltb x (1 * f) ≡ false
-    fast x f d h = le-ltb x (1 * f) (omega arith)
-
-    both : (x f d : ℕ) → f + 2 * d ≤ x → ltb x (1 * f + 2 * 1 * d) ≡ false
-    both x f d h = le-ltb x (1 * f + 2 * 1 * d) (omega arith)
-
-    left : (x f d : ℕ) → x - (f + 2 * d) ≡ x - 1 * f - 2 * 1 * d
-    left x f d = omega arith
+  -- past a stretch
+  past_stretch : fast + 2 * settled ≤ x → phase_on ss (x - q * fast_part s - 2 * q * settled_part s) q ≡ phase_on (s ∷ ss) x q
+  unfolding phase_on
+  past_stretch h =
+      rw (
+        phase_on,
+        le-ltb x (q * fast_part s) (omega arith),
+        le-ltb x (q * fast_part s + 2 * q * settled_part s) (omega arith),
+      )
 
 -- the last stretch: what comes after it is settled too
-in_last : (s : Stretch) (x : ℕ) → phase_in (ltb x (fast_part s)) s.end ≡ phase_on (s ∷ []) x 1
+in_last : (q : ℕ) (s : Stretch) (x fast : ℕ) → fast ≡ q * fast_part s → phase_in (ltb x fast) s.end ≡ phase_on (s ∷ []) x q
 unfolding phase_on
-in_last s x = go (ltb x (fast_part s + 2 * settled_part s)) refl
+in_last q s x fast f = go (dec_lt x (fast + 2 * (q * settled_part s)))
   where
-    slow : (x f d : ℕ) → f + 2 * d ≤ x → ltb x f ≡ false
-    slow x f d h = le-ltb x f (omega arith)
+    go : Dec (x < fast + 2 * (q * settled_part s)) → phase_in (ltb x fast) s.end ≡ phase_on (s ∷ []) x q
+    go (yes h) = in_stretch q s [] x fast (q * settled_part s) f refl h
+    go (no h) =
+        rw (le-ltb x fast (omega arith))
+        (past_stretch q s [] x fast (q * settled_part s) f refl (omega arith))
 
-    go : (b : Bool) → ltb x (fast_part s + 2 * settled_part s) ≡ b → phase_in (ltb x (fast_part s)) s.end ≡ phase_on (s ∷ []) x 1
-    go true e = in_stretch s [] x (ltb-true x (fast_part s + 2 * settled_part s) e)
-    go false e =
-        let h = ltb-false x (fast_part s + 2 * settled_part s) e in
-        rw (slow x (fast_part s) (settled_part s) h)
-        (past_stretch s [] x (x - (fast_part s + 2 * settled_part s)) h refl)
+-- what comes of a place, with the lines still to come
+abbrev pub goes : ℕ → Place → List ℕ → ℕ → Phase
+goes q s lines back = phase_on (stretches s.from s.end lines back) s.left q
 
--- The walk over a panel's arrays
+-- at t_f
+pub onward_start : (p : Panel) (q : ℕ) (s : Place) (lines : List ℕ) (back : ℕ)
+    → (s.from ≡ depth_at_failure p) × (s.end ≡ first_end p) × (s.gained ≡ 0) → lines ≡ bond_lines p → back ≡ back_face p
+    → goes q s lines back ≡ phase_on (way p) s.left q
+unfolding way
+onward_start p q s lines back h e b = rw (h.0, h.1, e, b)
 
-pub record Onward (p : Panel) (x i line from end left : ℕ) : Type 0 where
-  pub ends : line ≡ tenth * thickness (lamellae_of p.directions p.thicknesses i)
-  pub end_most : end ≤ 425000000000
-  pub left_most : left ≤ 720000000000
-  pub same : phase_on (stretches from end (lines_if (eqb p.bond 1) line (drop i (lamellae p))) (back_face p)) left 1 ≡ phase_on (way p) x 1
+module _ (q : ℕ) (s : Place) (back : ℕ) (line : Line) (all lines : List ℕ) (e : (all ≡ line.at ∷ lines) × (line.end ≡ line_end line.at lines))
+    (fast settled : ℕ) (f : fast ≡ q * (min s.end line.at - s.from)) (d : settled ≡ q * (line.at - max s.from s.end)) where
+  abbrev here : Stretch
+  here = record { from = s.from; end = s.end; to = line.at }
 
-pub onward_start : (p : Panel) (f : Fire) (x : ℕ) → FireOf p f → FireBounds f → x ≤ 720000000000 → Onward p x 0 0 f.depth f.end x
-unfolding way bond_lines lamellae_of thickness
-onward_start p f x o b h =
-    record {
-      ends = refl;
-      end_most = omega (arith, b.end);
-      left_most = h;
-      same = rw (o.depth, o.end, bond_lines_lem (eqb p.bond 1) (lamellae p));
-    }
+  -- the time is over before the next line: it is one that is still to come
+  pub onward_stop : s.left < fast + 2 * settled → phase_in (ltb s.left fast) s.end ≡ goes q s all back
+  onward_stop h = rw e.0 (go (leb s.from line.at) refl)
+    where
+      over : line.at < s.from → s.left < q * 0 + 2 * (q * 0)
+      over k =
+          let none : min s.end line.at - s.from ≡ 0 = omega arith in
+          let neither : line.at - max s.from s.end ≡ 0 = omega arith in
+          rw (f, d, none, neither) at h
 
-module _ (p : Panel) (x i line from end left next : ℕ) (w : Onward p x i line from end left) (k : i + 1 < p.count)
-    (e : next ≡ line + 100000000 * get_or p.thicknesses i 0) where
-  -- a line that is still to come
-  way_here : (eqb p.bond 1 && leb from next) ≡ true
-      → stretches from end (lines_if (eqb p.bond 1) line (drop i (lamellae p))) (back_face p)
-      ≡ record { from = from; end = end; to = next }
-      ∷ stretches next (line_end next (lines_if (eqb p.bond 1) next (drop (i + 1) (lamellae p))))
-      (lines_if (eqb p.bond 1) next (drop (i + 1) (lamellae p))) (back_face p)
-  way_here t =
-      let b = and_left (eqb p.bond 1) (leb from next) t in
-      ap (λ (xs : List ℕ). stretches from end xs (back_face p)) (line_here p i line next k e (eqb p.bond 1) b)
-      ∙ to_line from end next (lines_if (eqb p.bond 1) next (drop (i + 1) (lamellae p))) (back_face p)
-      (leb-true from next (and_right (eqb p.bond 1) (leb from next) t))
-
-  -- the time is over before it
-  pub onward_stop : (fast settled : ℕ) → (eqb p.bond 1 && leb from next) ≡ true → fast ≡ min end next - from → settled ≡ next - max from end
-      → left < fast + 2 * settled → phase_in (ltb left fast) end ≡ phase_on (way p) x 1
-  onward_stop fast settled t f d h =
-      let ss = stretches next (line_end next (lines_if (eqb p.bond 1) next (drop (i + 1) (lamellae p))))
-      (lines_if (eqb p.bond 1) next (drop (i + 1) (lamellae p))) (back_face p) in
-      let s : Stretch = record { from = from; end = end; to = next } in
-      let h' : left < fast_part s + 2 * settled_part s = rw (f, d) at h in
-      ap (λ (y : ℕ). phase_in (ltb left y) end) f
-      ∙ in_stretch s ss left h'
-      ∙ ap (λ (ys : List Stretch). phase_on ys left 1) (sym (way_here t))
-      ∙ w.same
+      go : (b : Bool) → leb s.from line.at ≡ b → phase_in (ltb s.left fast) s.end ≡ goes q s (line.at ∷ lines) back
+      go true t =
+          rw (to_line s.from s.end line.at lines back (leb-true s.from line.at t))
+          (in_stretch q here (stretches line.at (line_end line.at lines) lines back) s.left fast settled f d h)
+      go false t = absurd (omega (arith, over (leb-false s.from line.at t)))
 
   -- the time goes on past it
-  pub onward_more : (fast settled rest r : ℕ) → (eqb p.bond 1 && leb from next) ≡ true → fast ≡ min end next - from → settled ≡ next - max from end
-      → fast + 2 * settled ≤ left → rest ≡ left - (fast + 2 * settled) → LineEnd next p.thicknesses (i + 1) p.count r → next ≤ 400000000000
-      → Onward p x (i + 1) next next r rest
-  onward_more fast settled rest r t f d h y z n =
-      let lines = lines_if (eqb p.bond 1) next (drop (i + 1) (lamellae p)) in
-      let ss = stretches next (line_end next lines) lines (back_face p) in
-      let s : Stretch = record { from = from; end = end; to = next } in
-      let h' : fast_part s + 2 * settled_part s ≤ left = rw (f, d) at h in
-      let y' : rest ≡ left - (fast_part s + 2 * settled_part s) = rw (f, d) at y in
-      record {
-        ends = next_ends p i w.ends e;
-        end_most = omega (arith, z.most);
-        left_most = omega (arith, w.left_most);
-        same =
-            ap (λ (q : ℕ). phase_on (stretches next q lines (back_face p)) rest 1)
-            (end_here p (i + 1) next r k z (eqb p.bond 1) (and_left (eqb p.bond 1) (leb from next) t))
-            ∙ past_stretch s ss left rest h' y'
-            ∙ ap (λ (ys : List Stretch). phase_on ys left 1) (sym (way_here t))
-            ∙ w.same;
-      }
+  pub onward_more : (r : Place) → Passed q s line r → fast + 2 * settled ≤ s.left → goes q r lines back ≡ goes q s all back
+  onward_more r w h = rw e.0 (go (leb s.from line.at) refl)
+    where
+      go : (b : Bool) → leb s.from line.at ≡ b → goes q r lines back ≡ goes q s (line.at ∷ lines) back
+      go true t =
+          let c = w.crossed t in
+          rw (to_line s.from s.end line.at lines back (leb-true s.from line.at t), c.from, c.end, e.1, c.left)
+          (past_stretch q here (stretches line.at (line_end line.at lines) lines back) s.left fast settled f d h)
+      go false t = rw (w.kept t, past_line_lem s.from s.end line.at lines back (leb-false s.from line.at t))
 
-  -- a line that starts nothing
-  skip : (b : Bool) → eqb p.bond 1 ≡ b → (b && leb from next) ≡ false
-      → stretches from end (lines_if b next (drop (i + 1) (lamellae p))) (back_face p)
-      ≡ stretches from end (lines_if b line (drop i (lamellae p))) (back_face p)
-  skip false q t = refl
-  skip true q t =
-      sym (ap (λ (xs : List ℕ). stretches from end xs (back_face p)) (line_here p i line next k e true refl)
-      ∙ past_line_lem from end next (lines_from next (drop (i + 1) (lamellae p))) (back_face p) (leb-false from next t))
-
-  pub onward_skip : (eqb p.bond 1 && leb from next) ≡ false → Onward p x (i + 1) next from end left
-  onward_skip t =
-      record {
-        ends = next_ends p i w.ends e;
-        end_most = w.end_most;
-        left_most = w.left_most;
-        same = ap (λ (ys : List Stretch). phase_on ys left 1) (skip (eqb p.bond 1) refl t) ∙ w.same;
-      }
-
-pub onward_last : (p : Panel) (x i line from end left fast back : ℕ) → Onward p x i line from end left → i + 1 ≡ p.count → back ≡ back_face p
-    → fast ≡ min end back - from → phase_in (ltb left fast) end ≡ phase_on (way p) x 1
+pub onward_last : (q : ℕ) (s : Place) (back fast : ℕ) (all : List ℕ) → all ≡ [] → fast ≡ q * (min s.end back - s.from)
+    → phase_in (ltb s.left fast) s.end ≡ goes q s all back
 unfolding stretches
-onward_last p x i line from end left fast back w k e f =
-    ap (λ (y : ℕ). phase_in (ltb left y) end) (f ∙ ap (λ (z : ℕ). min end z - from) e)
-    ∙ in_last (record { from = from; end = end; to = back_face p }) left
-    ∙ ap (λ (lines : List ℕ). phase_on (stretches from end lines (back_face p)) left 1) (sym (no_line p i line k))
-    ∙ w.same
+onward_last q s back fast all e f = rw e (in_last q (record { from = s.from; end = s.end; to = back }) s.left fast f)

@@ -1,13 +1,13 @@
 -- What the open calls answer where a line turns the panel or the call back, and where none does.
 use Prim.Native.Nat.{ℕ, suc, ◌+◌, ◌≤◌, ◌<◌}
 use mathlib.Core.Path.{◌≡◌, refl, sym, ap, subst, ◌∙◌}
-use mathlib.Core.List.{List, [], ◌∷◌, ◌++◌, append_assoc}
+use mathlib.Core.List.{List, [], ◌∷◌, ◌++◌, append_assoc, append-nil}
 use native.Mathlib.Numerals.{add-one}
 use borrow.Author.Tests.{ltb-false, lt-ltb, le-ltb}
 use lib.Dec.{ltb}
 use Rattle.std.specs.Prelude.{Ok, Err}
 use lib.ListN.{length, drop, get_or, set}
-use lib.Seq.{drop-cons, set-append_seam}
+use lib.Seq.{drop-cons, drop-length, set-append_seam}
 use Rattle.numbers.specs.Firsts.{firsts}
 use Rattle.numbers.proofs.FirstValues.{length_firsts}
 use Rattle.panel.specs.declared.Panel.{Panel}
@@ -46,6 +46,15 @@ fill_more f l i out h e =
     ∙ ap (λ (k : ℕ). set (firsts f i ++ (get_or l i 0 ∷ drop (suc i) l)) k (f i)) (sym (length_firsts f i))
     ∙ set-append_seam (firsts f i) (get_or l i 0) (drop (suc i) l) (f i)
     ∙ sym (append_assoc (firsts f i) (f i ∷ []) (drop (suc i) l)))
+
+-- all of them
+pub fill_end : (f : ℕ → ℕ) (l : List ℕ) (i n : ℕ) (out : List ℕ) → out ≡ firsts f i ++ drop i l → i ≡ n → length l ≡ n → out ≡ firsts f n
+fill_end f l i n out e h k =
+    e
+    ∙ ap (λ (j : ℕ). firsts f j ++ drop j l) (h ∙ sym k)
+    ∙ ap (λ (r : List ℕ). firsts f (length l) ++ r) (drop-length l)
+    ∙ append-nil (firsts f (length l))
+    ∙ ap (firsts f) k
 
 abbrev pub short : List ℕ → List Line
 short space = line 14 (ltb (length space) 361) ∷ []

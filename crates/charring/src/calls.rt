@@ -1,13 +1,10 @@
 // The open calls of this crate: they ask nothing of their caller. Depths and phases are those of the fire that is shown.
 ghost use Rattle.std.specs.Prelude.{◌≡◌};
+ghost use Rattle.panel.specs.Faces.{shown};
 ghost use Rattle.limits.specs.Numbers.{by_number};
 ghost use Rattle.charring.specs.Answers.{asked_answer, phase_answer, char_answer, effective_answer, table_answer, table_after};
 
-use crate::depths::{micrometres_in, tenths_in};
-use crate::fires::fire_of;
-use crate::phases::phase_at;
-use crate::table::fill;
-use crate::{ENTRIES, Phase};
+use crate::{ENTRIES, Fire, Phase, Time};
 use limits::LAST_MINUTE;
 use limits::check::Accepted;
 use limits::refusal::Refusal;
@@ -23,12 +20,19 @@ pub fn asked(p: Panel, minute: u16) -> Result<Accepted, Refusal>
     Ok(accepted)
 }
 
+// The fire that is shown.
+fn shown_fire(accepted: Accepted) -> Fire
+    ensures { result.panel ≡ shown accepted }
+{
+    Fire::of(accepted.shown().panel())
+}
+
 // The phase at a whole minute.
 pub fn phase(p: Panel, minute: u16) -> Result<Phase, Refusal>
     ensures { by_number result ≡ phase_answer p minute }
 {
     let accepted = asked(p, minute)?;
-    Ok(phase_at(accepted.shown().panel(), u64::from(minute)))
+    Ok(shown_fire(accepted).phase(Time::minute(u64::from(minute))))
 }
 
 // The char depth at a whole minute, in micrometres, rounded up.
@@ -36,8 +40,7 @@ pub fn char_depth(p: Panel, minute: u16) -> Result<u32, Refusal>
     ensures { by_number result ≡ char_answer p minute }
 {
     let accepted = asked(p, minute)?;
-    let exposed = accepted.shown().panel();
-    Ok(micrometres_in(exposed, fire_of(exposed), u64::from(minute)))
+    Ok(shown_fire(accepted).micrometres(u64::from(minute)))
 }
 
 // The effective depth at a whole minute, in tenths of mm, rounded up.
@@ -45,8 +48,7 @@ pub fn effective_depth(p: Panel, minute: u16) -> Result<u32, Refusal>
     ensures { by_number result ≡ effective_answer p minute }
 {
     let accepted = asked(p, minute)?;
-    let exposed = accepted.shown().panel();
-    Ok(tenths_in(exposed, fire_of(exposed), u64::from(minute), 1))
+    Ok(shown_fire(accepted).tenths(Time::minute(u64::from(minute))))
 }
 
 // The char depths of minutes 0 to 360 in micrometres, rounded up, into the lent space.
@@ -56,6 +58,6 @@ pub fn depth_table(p: Panel, out: &mut [u32]) -> Result<(), Refusal>
 {
     let accepted = Accepted::of(p)?;
     refuse_if(out.len() < ENTRIES, Refusal::Space)?;
-    fill(accepted.shown().panel(), out);
+    shown_fire(accepted).fill(out);
     Ok(())
 }

@@ -1,133 +1,95 @@
 // What is the same at every minute, worked out once for a panel.
 ghost use Rattle.std.specs.Prelude.{◌≡◌, ◌-◌, ◌*◌, ◌≤◌, ◌<◌, min, eqb};
 ghost use Rattle.numbers.specs.Choice.{pick};
-ghost use Rattle.charring.specs.Fires.{fast_run, start_of, failure_of, k2, clad, bond_lines, passed_end};
-ghost use Rattle.charring.specs.Fits.{FireFits, FireOf, FireBounds, LineEnd};
+ghost use Rattle.charring.specs.Fires.{fast_run, start_of, failure_of, k2, clad, passed_end};
+ghost use Rattle.charring.specs.Fits.{FireFits};
+ghost use Rattle.charring.specs.Ways.{lines_left};
 
-use crate::Fire;
+use crate::lines::Lines;
+use crate::{FAST_RUN, Fire, TENTH};
 use limits::causes::total_thickness;
-use numbers::words64::{greater, less, lesser, pick, widen};
 use panel::boards::{charring_start, type_f};
 use panel::timber::rate_of;
-use panel::{Board, Cladding, Panel};
-
-fn k2_behind(b: Board) -> u64
-    ensures { (result ≡ 10000 - 18 * b.thickness) × (result ≤ 10000) }
-{
-    less(10000, 18 * widen(b.thickness))
-}
+use panel::{Cladding, Panel};
 
 fn k2_of(c: Cladding) -> u64
     ensures { result ≡ k2 c }
 {
     match c {
         Cladding::Unclad => 0,
-        Cladding::One(b) => k2_behind(b),
-        Cladding::Two(_, inner) => k2_behind(inner),
+        Cladding::One(inner) | Cladding::Two(_, inner) => 10000_u64.saturating_sub(
+            18 * u64::from(inner.thickness),
+        ),
     }
 }
 
 fn is_clad(c: Cladding) -> bool
     ensures { result ≡ clad c }
 {
-    match c {
-        Cladding::Unclad => false,
-        Cladding::One(_) => true,
-        Cladding::Two(_, _) => true,
-    }
+    !matches!(c, Cladding::Unclad)
 }
 
 fn start_of(p: Panel) -> u64
     ensures { result ≡ start_of p }
 {
-    let c = p.cladding;
-    charring_start(p.gap, c) as u64
+    u64::from(charring_start(p.gap, p.cladding))
 }
 
 fn failure_of(p: Panel, start: u64) -> u64
     requires { start ≡ start_of p }
     ensures { result ≡ failure_of p }
 {
-    let c = p.cladding;
-    pick(type_f(c), p.failure_time as u64, start)
-}
-
-fn slow_rate(factor: u64, rate: u64) -> u64
-    requires { (factor ≤ 10000) × (rate ≤ 100) }
-    ensures { (result ≡ factor * rate) × (result ≤ 1000000) }
-{
-    factor * rate
-}
-
-// How far a rate of at most 1 mm a minute comes in at most six hours.
-fn run_of(rate: u64, time: u64) -> u64
-    requires { (rate ≤ 1000000) × (time ≤ 360000) }
-    ensures { (result ≡ rate * time) × (result ≤ 360000000000) }
-{
-    rate * time
+    if type_f(p.cladding) {
+        u64::from(p.failure_time)
+    } else {
+        start
+    }
 }
 
 fn intact_end(behind: bool, start: u64, failure: u64, plain: u64) -> u64
     requires { (plain ≤ 1000000) × (failure ≤ 360000) }
     ensures { result ≡ pick behind (pick (eqb start failure) (min (2 * plain * failure) fast_run) fast_run) 0 }
 {
-    let early = lesser(2 * run_of(plain, failure), 25000000000);
-    pick(behind, pick(start == failure, early, 25000000000), 0)
-}
-
-// 25 mm past a line or at the next line, where lamella `at` ends.
-pub(crate) fn line_end(line: u64, thicknesses: [u16; 9], at: usize, count: usize) -> u64
-    requires { (line ≤ 400000000000) × ((at < 9) × (count ≤ 9)) }
-    ensures { LineEnd line thicknesses at count result }
-{
-    let past = line + 25000000000;
-    if at + 1 < count {
-        lesser(past, line + 100000000 * widen(thicknesses[at]))
-    } else {
-        past
-    }
+    let early = (2 * plain * failure).min(FAST_RUN);
+    let end = if start == failure { early } else { FAST_RUN };
+    if behind { end } else { 0 }
 }
 
 // Of the lines that are passed at a depth, the deepest sets the end.
-fn passed_end(p: Panel, deep: u64, intact: u64) -> u64
-    requires { FireFits p }
-    ensures { result ≡ passed_end deep intact (bond_lines p) }
+fn passed_end(lines: Lines<'_>, deep: u64, intact: u64) -> u64
+    ensures { result ≡ passed_end deep intact (lines_left lines.entry) }
 {
-    let thicknesses = p.thicknesses;
     let mut end = intact;
-    let mut line: u64 = 0;
-    let mut i = 0;
-    while i + 1 < p.count {
-        line += 100000000 * widen(thicknesses[i]);
-        i += 1;
-        if (p.bond == 1) & (line < deep) {
-            end = line_end(line, thicknesses, i, p.count);
+    for line in lines {
+        if line.at < deep {
+            end = line.end;
         }
     }
     end
 }
 
-// No open call: the limits of lines 3, 4, 8, 9, 10 and 11 must hold.
-pub fn fire_of(p: Panel) -> Fire
-    requires { FireFits p }
-    ensures { FireOf p result × FireBounds result }
-{
-    let c = p.cladding;
-    let thicknesses = p.thicknesses;
-    let start = start_of(p);
-    let failure = failure_of(p, start);
-    let rate = rate_of(p);
-    let slow = slow_rate(k2_of(c), rate);
-    let depth = run_of(slow, less(failure, start));
-    let intact = intact_end(is_clad(c), start, failure, 10000 * rate);
-    Fire {
-        start: start,
-        failure: failure,
-        slow: slow,
-        plain: 10000 * rate,
-        depth: depth,
-        end: passed_end(p, depth, intact),
-        back: 100000000 * (total_thickness(thicknesses, p.count) as u64),
-        full: greater(20000, start),
+impl Fire {
+    // No open call: the limits of lines 3, 4, 8, 9, 10 and 11 must hold.
+    pub fn of(panel: Panel) -> Fire
+        requires { FireFits panel }
+        ensures { result.panel ≡ panel }
+    {
+        let start = start_of(panel);
+        let failure = failure_of(panel, start);
+        let rate = rate_of(panel);
+        let slow = k2_of(panel.cladding) * rate;
+        let depth = slow * (failure - start);
+        let intact = intact_end(is_clad(panel.cladding), start, failure, 10000 * rate);
+        Fire {
+            panel,
+            start,
+            failure,
+            slow,
+            plain: 10000 * rate,
+            depth,
+            end: passed_end(Lines::of(&panel), depth, intact),
+            back: TENTH * u64::from(total_thickness(panel.thicknesses, panel.count)),
+            full: start.max(20000),
+        }
     }
 }

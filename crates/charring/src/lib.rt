@@ -1,20 +1,34 @@
 // Charring behind cladding and bond lines (document 01, "Charring"): char depth, phase and effective depth at a time.
 #![tactic(auto)]
 
+ghost use Rattle.std.specs.Prelude.{◌≡◌, ◌+◌, ◌*◌, ◌≤◌};
+ghost use Rattle.charring.specs.Fires.{start_of, failure_of, plain_rate, slow_rate, back_face, depth_at_failure, first_end};
+ghost use Rattle.charring.specs.Depths.{full_at};
+ghost use Rattle.charring.specs.Fits.{FireFits, TimeFits};
+
 pub mod calls;
-pub mod depths;
-pub mod fires;
+mod depths;
+mod fires;
+mod lines;
 mod phases;
 mod table;
+mod times;
 mod walk;
 
 use limits::LAST_MINUTE;
+use panel::Panel;
+
+// A tenth of mm, in picometres.
+const TENTH: u64 = 100000000;
+
+// 25 mm, in picometres: how far a fast run goes.
+const FAST_RUN: u64 = 25000000000;
 
 // The entries of a depth table: one for each minute.
 const ENTRIES: usize = LAST_MINUTE as usize + 1;
 
 // The phase of the char. A fast phase carries the char depth where it ends, in hundred-thousandths of mm.
-#[derive(Clone, Copy)]
+#[derive(Clone, Copy, Debug, PartialEq, Eq)]
 pub enum Phase {
     Untouched,
     UnderCladding,
@@ -22,26 +36,51 @@ pub enum Phase {
     Settled,
 }
 
-// What is the same at every minute: t_ch and t_f, the rates under cladding and after it, the depth at t_f, where the first run
-// ends, the back face, and when k0 is 1. Times in thousandths of a minute, lengths in picometres.
+// n/q minutes: at most 360, in whole parts of which q, at most sixty, make a minute.
+#[derive(Clone, Copy)]
+pub struct Time {
+    n: u64,
+    q: u64,
+    ghost fits: { TimeFits n q },
+}
+
+// A panel and what is the same of it at every time: t_ch and t_f, the rates under cladding and after it, the depth at t_f, where the first
+// run ends, the back face, and when k0 is 1. Times in thousandths of a minute, lengths in picometres.
 #[derive(Clone, Copy)]
 pub struct Fire {
-    pub start: u64,
-    pub failure: u64,
-    pub slow: u64,
-    pub plain: u64,
-    pub depth: u64,
-    pub end: u64,
-    pub back: u64,
-    pub full: u64,
+    pub panel: Panel,
+    start: u64,
+    failure: u64,
+    slow: u64,
+    plain: u64,
+    depth: u64,
+    end: u64,
+    back: u64,
+    full: u64,
+    ghost fits: { FireFits panel },
+    ghost start_is: { start ≡ start_of panel },
+    ghost failure_is: { failure ≡ failure_of panel },
+    ghost slow_is: { slow ≡ slow_rate panel },
+    ghost plain_is: { plain ≡ plain_rate panel },
+    ghost depth_is: { depth ≡ depth_at_failure panel },
+    ghost end_is: { end ≡ first_end panel },
+    ghost back_is: { back ≡ back_face panel },
+    ghost full_is: { full ≡ full_at panel },
+    ghost slow_most: { slow ≤ 1000000 },
+    ghost depth_most: { depth ≤ 360000000000 },
+    // 25 mm past the depth at t_f
+    ghost end_most: { end ≤ 385000000000 },
 }
 
 // A place on the way through the panel: the depth and where its run ends, in picometres; and times q what is left of the time in twice what
 // β alone adds, and what has charred on the way, in half picometres.
 #[derive(Clone, Copy)]
 pub(crate) struct Place {
-    pub from: u64,
-    pub end: u64,
-    pub left: u64,
-    pub gained: u64,
+    from: u64,
+    end: u64,
+    left: u64,
+    gained: u64,
+    ghost from_most: { from ≤ 400000000000 },
+    ghost end_most: { end ≤ 425000000000 },
+    ghost gained_most: { gained + 2 * left ≤ 86400000000000 },
 }

@@ -1,16 +1,12 @@
-// The phase at a whole minute. No open calls: the limits must hold.
-ghost use Rattle.std.specs.Prelude.{◌≡◌, ◌≤◌, ltb};
-ghost use Rattle.limits.specs.Causes.{last_minute};
+// The phase at a time.
+ghost use Rattle.std.specs.Prelude.{◌≡◌, ◌-◌, ◌*◌, ◌≤◌, ltb};
+ghost use Rattle.charring.specs.Fires.{failure_of, plain_rate};
 ghost use Rattle.charring.specs.Stages.{way};
 ghost use Rattle.charring.specs.Phases.{phase_on, phase_at};
-ghost use Rattle.charring.specs.Fits.{FireFits, FireOf, FireBounds, phase_in};
+ghost use Rattle.charring.specs.Fits.{phase_in};
 
-use crate::depths::{char_of, twice_run};
-use crate::fires::{fire_of, line_end};
-use crate::walk::{fast_part, settled_part};
-use crate::{Fire, Phase};
-use numbers::words64::{less, widen};
-use panel::Panel;
+use crate::lines::Lines;
+use crate::{Fire, Phase, Time};
 
 fn phase_in(left: u64, fast: u64, end: u64) -> Phase
     requires { end ≤ 425000000000 }
@@ -23,51 +19,36 @@ fn phase_in(left: u64, fast: u64, end: u64) -> Phase
     }
 }
 
-// On the way from t_f on, after as much time as x says.
-fn phase_on(p: Panel, f: Fire, x: u64) -> Phase
-    requires fire_fits { FireFits p }
-    requires fire_of { FireOf p f × FireBounds f }
-    requires x_bound { x ≤ 720000000000 }
-    ensures { result ≡ phase_on (way p) x 1 }
-{
-    let thicknesses = p.thicknesses;
-    let mut from = f.depth;
-    let mut end = f.end;
-    let mut left = x;
-    let mut line: u64 = 0;
-    let mut i = 0;
-    while i + 1 < p.count {
-        line += 100000000 * widen(thicknesses[i]);
-        i += 1;
-        if (p.bond == 1) & (from <= line) {
-            let fast = fast_part(from, end, line);
-            let both = fast + 2 * settled_part(from, end, line);
-            if left < both {
-                return phase_in(left, fast, end);
+impl Fire {
+    // On the way from t_f on.
+    fn phase_after(&self, at: Time) -> Phase
+        ensures { result ≡ phase_on (way self.now.panel) (2 * plain_rate self.now.panel * (1000 * at.n - at.q * failure_of self.now.panel)) at.q }
+    {
+        let mut place = self.at_failure(at);
+        for line in Lines::of(&self.panel) {
+            let fast = place.fast_part(line.at, at);
+            let settled = place.settled_part(line.at, at);
+            if place.left < fast + 2 * settled {
+                return phase_in(place.left, fast, place.end);
             }
-            left -= both;
-            from = line;
-            end = line_end(line, thicknesses, i, p.count);
+            place = place.pass(line, at);
         }
+        phase_in(place.left, place.fast_part(self.back, at), place.end)
     }
-    phase_in(left, fast_part(from, end, f.back), end)
-}
 
-pub(crate) fn phase_at(p: Panel, minute: u64) -> Phase
-    requires fire_fits { FireFits p }
-    requires minute_le_last_minute { minute ≤ last_minute }
-    ensures { result ≡ phase_at p minute 1 }
-{
-    let f = fire_of(p);
-    let time = 1000 * minute;
-    if 2 * f.back <= char_of(p, f, minute, 1) {
-        return Phase::Settled;
+    pub(crate) fn phase(&self, at: Time) -> Phase
+        ensures { result ≡ phase_at self.now.panel at.n at.q }
+    {
+        let time = 1000 * at.n;
+        if 2 * at.scaled(self.back) <= self.char(at) {
+            return Phase::Settled;
+        }
+        if time < at.scaled(self.start) {
+            return Phase::Untouched;
+        }
+        if time < at.scaled(self.failure) {
+            return Phase::UnderCladding;
+        }
+        self.phase_after(at)
     }
-    if time < f.start {
-        return Phase::Untouched;
-    }
-    if time < f.failure {
-        return Phase::UnderCladding;
-    }
-    phase_on(p, f, twice_run(f.plain, less(time, f.failure)))
 }

@@ -1,89 +1,80 @@
 // The way through the panel from t_f on, from bond line to bond line.
 ghost use Rattle.std.specs.Prelude.{◌≡◌, ◌+◌, ◌-◌, ◌*◌, ◌≤◌, min, max};
-ghost use Rattle.charring.specs.Stages.{way, charred};
-ghost use Rattle.charring.specs.Fits.{FireFits, FireOf, FireBounds, PlaceBounds, Crossed, Passed};
+ghost use Rattle.charring.specs.Fires.{failure_of, plain_rate, depth_at_failure, first_end};
+ghost use Rattle.charring.specs.Depths.{after_at};
+ghost use Rattle.charring.specs.Ways.{Crossed, Passed};
 
-use crate::{Fire, Place};
-use numbers::words64::{greater, less, lesser, widen};
-use panel::Panel;
+use crate::lines::{Line, Lines};
+use crate::{Fire, Place, Time};
 
-// A time or a length times q.
-pub(crate) fn scaled(q: u64, x: u64) -> u64
-    requires { (q ≤ 60) × (x ≤ 400000000000) }
-    ensures { (result ≡ q * x) × (result ≤ 60 * x) }
-{
-    q * x
-}
+impl Place {
+    // The parts of the stretch from here to a depth, times q.
+    pub(crate) fn fast_part(self, to: u64, at: Time) -> u64
+        requires { to ≤ 400000000000 }
+        ensures { (result ≡ at.q * (min self.end to - self.from)) × (result ≤ 24000000000000) }
+    {
+        at.scaled(self.end.min(to).saturating_sub(self.from))
+    }
 
-pub(crate) fn fast_part(from: u64, end: u64, to: u64) -> u64
-    ensures { (result ≡ min end to - from) × (result ≤ to) }
-{
-    less(lesser(end, to), from)
-}
+    pub(crate) fn settled_part(self, to: u64, at: Time) -> u64
+        requires { to ≤ 400000000000 }
+        ensures { (result ≡ at.q * (to - max self.from self.end)) × (result ≤ 24000000000000) }
+    {
+        at.scaled(to.saturating_sub(self.from.max(self.end)))
+    }
 
-pub(crate) fn settled_part(from: u64, end: u64, to: u64) -> u64
-    ensures { (result ≡ to - max from end) × (result ≤ to) }
-{
-    less(to, greater(from, end))
-}
+    // To the end of a stretch, where a run starts that ends at `end`.
+    fn cross(self, to: u64, end: u64, at: Time) -> Place
+        requires { (to ≤ 400000000000) × (end ≤ 425000000000) }
+        ensures { Crossed at.q self to end result }
+    {
+        let fast = self.fast_part(to, at);
+        let settled = self.settled_part(to, at);
+        let past_fast = self.left.saturating_sub(fast);
+        Place {
+            from: to,
+            end,
+            left: past_fast.saturating_sub(2 * settled),
+            gained: self.gained + 2 * self.left.min(fast) + past_fast.min(2 * settled),
+        }
+    }
 
-fn gain_on(left: u64, fast: u64, settled: u64) -> u64
-    requires { (left ≤ 43200000000000) × (settled ≤ 24000000000000) }
-    ensures { (result ≡ 2 * min left fast + min (left - fast) (2 * settled)) × (result + 2 * (left - fast - 2 * settled) ≤ 2 * left) }
-{
-    2 * lesser(left, fast) + lesser(less(left, fast), 2 * settled)
-}
-
-// To the end of a stretch.
-fn cross(s: Place, to: u64, q: u64) -> Place
-    requires place_bounds { PlaceBounds s }
-    requires to_bound { (to ≤ 400000000000) × (q ≤ 60) }
-    ensures { Crossed q s to result }
-{
-    let fast = scaled(q, fast_part(s.from, s.end, to));
-    let settled = scaled(q, settled_part(s.from, s.end, to));
-    Place {
-        from: to,
-        end: to + 25000000000,
-        left: less(less(s.left, fast), 2 * settled),
-        gained: s.gained + gain_on(s.left, fast, settled),
+    // Past a bond line. One that was passed before t_f starts nothing.
+    pub(crate) fn pass(self, line: Line, at: Time) -> Place
+        ensures { Passed at.q self line result }
+    {
+        if self.from <= line.at {
+            self.cross(line.at, line.end, at)
+        } else {
+            self
+        }
     }
 }
 
-// Past a bond line.
-fn pass(s: Place, line: u64, q: u64, falls: bool) -> Place
-    requires place_bounds { PlaceBounds s }
-    requires line_bound { (line ≤ 400000000000) × (q ≤ 60) }
-    ensures { Passed q falls s line result }
-{
-    if falls & (s.from <= line) {
-        cross(s, line, q)
-    } else {
-        s
+impl Fire {
+    // Where the way begins, with the time since t_f.
+    pub(crate) fn at_failure(&self, at: Time) -> Place
+        ensures start { (result.from ≡ depth_at_failure self.now.panel) × (result.end ≡ first_end self.now.panel) × (result.gained ≡ 0) }
+        ensures left { result.left ≡ 2 * plain_rate self.now.panel * (1000 * at.n - at.q * failure_of self.now.panel) }
+    {
+        let late = (1000 * at.n).saturating_sub(at.scaled(self.failure));
+        Place {
+            from: self.depth,
+            end: self.end,
+            left: 2 * self.plain * late,
+            gained: 0,
+        }
     }
-}
 
-// From t_f on, by as much time as x says. No open call: the limits must hold.
-pub(crate) fn walk(p: Panel, f: Fire, x: u64, q: u64) -> u64
-    requires fire_fits { FireFits p }
-    requires fire_of { FireOf p f × FireBounds f }
-    requires x_bound { (x ≤ 43200000000000) × (q ≤ 60) }
-    ensures { (result ≡ charred (way p) x q) × (result ≤ 86400000000000) }
-{
-    let thicknesses = p.thicknesses;
-    let mut s = Place {
-        from: f.depth,
-        end: f.end,
-        left: x,
-        gained: 0,
-    };
-    let mut line: u64 = 0;
-    let mut i = 0;
-    while i + 1 < p.count {
-        line += 100000000 * widen(thicknesses[i]);
-        s = pass(s, line, q, p.bond == 1);
-        i += 1;
+    // What has charred since t_f, in half picometres, times q.
+    pub(crate) fn after(&self, at: Time) -> u64
+        ensures { (result ≡ after_at self.now.panel at.n at.q) × (result ≤ 86400000000000) }
+    {
+        let mut place = self.at_failure(at);
+        for line in Lines::of(&self.panel) {
+            place = place.pass(line, at);
+        }
+        // No run starts at the back face.
+        place.cross(self.back, self.back, at).gained
     }
-    let r = cross(s, f.back, q);
-    r.gained
 }

@@ -3,26 +3,23 @@ ghost use Rattle.std.specs.Prelude.{◌≡◌, ◌+◌, ◌≤◌, length};
 ghost use Rattle.limits.specs.Causes.{last_minute};
 ghost use Rattle.card_text.specs.Stores.{Put};
 ghost use Rattle.limits.specs.Refusals.{panel_refusal};
-ghost use Rattle.charring.specs.Fits.{FireFits, FireOf, FireBounds};
+ghost use Rattle.charring.specs.Fits.{FireFits};
 ghost use Rattle.fire_card.specs.Card.{char_line, char_lines, load_lines, rating_lines, text_of_card, card_most};
 
 use card_text::text::{put_line, put_time};
-use charring::Fire;
-use charring::depths::{micrometres_in, tenths_in};
-use charring::fires::fire_of;
+use charring::{Fire, Time};
 use grades::Grade;
 use layers::minutes::ei_minute_of;
 use load::minutes::{load_seconds_of, minutes_in, seconds_over};
 use panel::Panel;
 use panel::faces::shown;
 
-fn put_char(out: &mut [u8], at: usize, p: Panel, f: Fire, minute: u32) -> usize
-    requires fire_fits { FireFits p × (FireOf p f × FireBounds f) }
-    requires minute_le_last_minute { (minute ≤ last_minute) × (at + 38 ≤ length out.old) }
-    ensures { Put out.old at (char_line p minute) 38 result out.new }
+fn put_char(out: &mut [u8], at: usize, fire: &Fire, minute: u32) -> usize
+    requires { (minute ≤ last_minute) × (at + 38 ≤ length out.old) }
+    ensures { Put out.old at (char_line fire.now.panel minute) 38 result out.new }
 {
-    let char = micrometres_in(p, f, minute as u64);
-    let depth = tenths_in(p, f, minute as u64, 1);
+    let char = fire.micrometres(u64::from(minute));
+    let depth = fire.tenths(Time::minute(u64::from(minute)));
     put_line(out, at, b"CHAR", &[minute, char, depth])
 }
 
@@ -31,11 +28,11 @@ fn put_chars(out: &mut [u8], at: usize, p: Panel) -> usize
     requires at_in_bounds { at + 152 ≤ length out.old }
     ensures { Put out.old at (char_lines p) 152 result out.new }
 {
-    let f = fire_of(p);
-    let at30 = put_char(out, at, p, f, 30);
-    let at60 = put_char(out, at30, p, f, 60);
-    let at90 = put_char(out, at60, p, f, 90);
-    put_char(out, at90, p, f, 120)
+    let fire = Fire::of(p);
+    let at30 = put_char(out, at, &fire, 30);
+    let at60 = put_char(out, at30, &fire, 60);
+    let at90 = put_char(out, at60, &fire, 90);
+    put_char(out, at90, &fire, 120)
 }
 
 fn put_load(out: &mut [u8], at: usize, load: u16, seconds: u16) -> usize

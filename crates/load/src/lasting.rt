@@ -7,8 +7,7 @@ ghost use Rattle.charring.specs.Fits.{FireFits};
 ghost use Rattle.load.specs.LoadMinute.{every_from, time_test};
 ghost use Rattle.load.specs.Lasting.{lasts};
 
-use charring::depths::tenths_in;
-use charring::fires::fire_of;
+use charring::{Fire, Time};
 use numbers::words64::lesser;
 use panel::Panel;
 use panel::faces::{shown, turned};
@@ -56,8 +55,8 @@ fn fire_lasts(p: Panel, minute: u16) -> bool
     requires minute_le_last_minute { minute ≤ last_minute }
     ensures { result ≡ time_test p minute 1 }
 {
-    let f = fire_of(p);
-    every_depth_passes(p, tenths_in(p, f, minute as u64, 1) as u64)
+    let depth = Fire::of(p).tenths(Time::minute(u64::from(minute)));
+    every_depth_passes(p, u64::from(depth))
 }
 
 // In every fire. No open call: no line above 13 may turn the panel back, and the minute is at most 360.

@@ -8,8 +8,7 @@ ghost use Rattle.charring.specs.Fits.{FireFits};
 ghost use Rattle.load.specs.LastPassing.{last_passing};
 ghost use Rattle.load.specs.LoadMinute.{load_seconds};
 
-use charring::depths::tenths_in;
-use charring::fires::fire_of;
+use charring::{Fire, Time};
 use limits::LAST_MINUTE;
 use limits::causes::total_thickness;
 use panel::Panel;
@@ -47,12 +46,12 @@ pub(crate) fn scan(p: Panel) -> u16
     ensures { result ≡ load_seconds p }
 {
     let last = last_passing(p);
-    let f = fire_of(p);
+    let fire = Fire::of(p);
     let mut second: u64 = 0;
     let mut beyond: u64 = 60 * LAST_MINUTE as u64 + 1;
     while second + 1 < beyond {
         let middle = second + (beyond - second) / 2;
-        if tenths_in(p, f, middle, 60) as u64 <= last {
+        if u64::from(fire.tenths(Time::second(middle))) <= last {
             second = middle;
         } else {
             beyond = middle;

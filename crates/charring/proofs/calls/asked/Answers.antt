@@ -22,7 +22,7 @@ pub returns-in_err-refuse_if : goal.returns-in_err-refuse_if
 unfolding asked_answer minute_refusal accepted_answer panel_refusal
 returns-in_err-refuse_if c =
     let a = c.args in
-    let p = err_from_is_err_and c.from_residual.result c.from_residual.ensures.1 in
+    let p = err_from_is_err_and c.from_residual-in_err-refuse_if.result c.from_residual-in_err-refuse_if.ensures.1 in
     let none = (accepted_with c.in_ok-accepted.ensures).0 in
     rw (p.1, p.2)
         (passed_on (minute_refusal a.p a.minute) tt (Ok a.p) (call_line (panel_lines a.p) tt none (bad_minute a.minute) Minute c.in_err-refuse_if.ensures))

@@ -1,47 +1,46 @@
--- `charring::calls::depth_table` meets its contract: the table is filled where no line and no want of space turns the call
--- back. Assumes nothing.
-use Rattle.charring.proofs.Replies.{shown_fits, short, table_short, table_turned, table_filled}
+-- `charring::calls::depth_table` meets its contract: the table is filled where no line and no want of space refuses the call. Assumes nothing.
+use Rattle.std.proofs.Common.{◌≡◌, ◌≤◌, ◌++◌, length, drop, sym, ap, ◌∙◌}
+use Rattle.std.proofs.lemmas.Result.{err_from_is_err_and}
+use Rattle.charring.proofs.Replies.{short, table_turned, table_filled}
 use Rattle.charring.specs.Answers.{depth_table, table_refusal}
-use Rattle.limits.proofs.Accepted.{accepted_fits}
-use Rattle.limits.proofs.FirstLine.{turned_above}
+use Rattle.limits.proofs.FirstLine.{turned_above, accepted_with, refused_with, call_line, not_fitting}
+use Rattle.limits.specs.Answers.{accepted_answer}
 use Rattle.limits.specs.Refusals.{panel_lines, panel_refusal}
+use Rattle.limits.specs.declared.refusal.Refusal.TheVariants.{Space}
+use Rattle.panel.specs.Faces.{shown}
 use Rattle.panel.specs.declared.Panel.{Panel}
-use borrow.Author.Tests.{eqb-false}
-use lib.ListN.{drop}
-use mathlib.Core.List.{◌++◌}
-use mathlib.Core.Path.{refl, sym, ap, ◌∙◌}
+use borrow.Author.Tests.{ltb-false}
+use lib.Dec.{ltb}
 use Rattle.charring.proofs.calls.depth_table.Goals as goal
 
-pub returns-then-n-ne0 : goal.returns-then-n-ne0
-unfolding table_refusal panel_refusal
-returns-then-n-ne0 c =
+pub returns-in_err-accepted : goal.returns-in_err-accepted
+unfolding table_refusal accepted_answer panel_refusal
+returns-in_err-accepted c =
     let a = c.args in
-    let r = c.panel_refusal-n in
-    let z = c.if-n-ne0.true in
-    let both = table_turned a.p a.out.now r.result (turned_above (panel_lines a.p) (short a.out.now) r.ensures z) z in
-    record { value = both.0; out_after = both.1 }
+    let p = err_from_is_err_and c.from_residual.result c.from_residual.ensures.1 in
+    let h = refused_with a.p c.in_err-accepted.ensures in
+    let both = table_turned a.p a.out.now _ (turned_above (panel_lines a.p) (short a.out.now) h.0 (λ z. h.1 (sym h.0 ∙ z))) (λ z. h.1 (sym h.0 ∙ z)) in
+    record { value = rw (p.1, p.2) both.0; out_after = both.1 }
 
-pub returns-then-out-lt-ENTRIES : goal.returns-then-out-lt-ENTRIES
-returns-then-out-lt-ENTRIES c =
+pub returns-in_err-refuse_if : goal.returns-in_err-refuse_if
+unfolding table_refusal accepted_answer panel_refusal
+returns-in_err-refuse_if c =
     let a = c.args in
-    let both = table_turned a.p a.out.now 14
-    (table_short a.p a.out.now (sym c.panel_refusal-n.ensures ∙ c.if-n-ne0.false) c.if-out-lt-ENTRIES.true) (eqb-false 14 0 refl) in
-    record { value = both.0; out_after = both.1 }
-
-pub shown-requires : goal.shown-requires
-shown-requires c =
-    (accepted_fits c.args.p (sym c.panel_refusal-n.ensures ∙ c.if-n-ne0.false)).count
+    let p = err_from_is_err_and c.from_residual-in_err-refuse_if.result c.from_residual-in_err-refuse_if.ensures.1 in
+    let none = (accepted_with c.in_ok-accepted.ensures).0 in
+    let h = refused_with tt (call_line (panel_lines a.p) tt none (ltb (length a.out.now) 361) Space c.in_err-refuse_if.ensures) in
+    let both = table_turned a.p a.out.now _ h.0 (λ z. h.1 (sym h.0 ∙ z)) in
+    record { value = rw (p.1, p.2) both.0; out_after = both.1 }
 
 pub fill-requires : goal.fill-requires
-fill-requires c =
-    record {
-      fire_fits = shown_fits c.args.p c.shown.result (sym c.panel_refusal-n.ensures ∙ c.if-n-ne0.false) c.shown.ensures;
-      table_length_in_bounds = c.if-out-lt-ENTRIES.false;
-    }
+fill-requires c = ltb-false (length c.args.out.now) 361 (not_fitting (ltb (length c.args.out.now) 361) Space c.in_ok-refuse_if.ensures)
 
 pub returns : goal.returns
+unfolding accepted_answer
 returns c =
     let a = c.args in
-    let both = table_filled a.p a.out.now c.fill.new.out (sym c.panel_refusal-n.ensures ∙ c.if-n-ne0.false)
-    c.if-out-lt-ENTRIES.false (c.fill.ensures ∙ ap (λ (q : Panel). depth_table q ++ drop 361 a.out.now) c.shown.ensures) in
+    let taken = accepted_with c.in_ok-accepted.ensures in
+    let room : 361 ≤ length a.out.now = ltb-false (length a.out.now) 361 (not_fitting (ltb (length a.out.now) 361) Space c.in_ok-refuse_if.ensures) in
+    let both = table_filled a.p a.out.now c.fill.new.out taken.0 room
+    (c.fill.ensures ∙ ap (λ (q : Panel). depth_table q ++ drop 361 a.out.now) (c.shown_fire.ensures ∙ ap shown taken.1)) in
     record { value = both.0; out_after = both.1 }

@@ -2,6 +2,10 @@
 use Rattle.charring.specs.Fires.{failure_of}
 use Rattle.charring.proofs.fires.failure_of.Goals as goal
 
-pub returns : goal.returns
+pub returns-then-type_f : goal.returns-then-type_f
 unfolding failure_of
-returns c = cc
+returns-then-type_f c = cc
+
+pub returns-else-type_f : goal.returns-else-type_f
+unfolding failure_of
+returns-else-type_f c = cc

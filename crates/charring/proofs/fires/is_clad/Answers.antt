@@ -1,15 +1,22 @@
--- `charring::fires::is_clad` meets its contract: each arm is one case of `clad`. Assumes nothing.
+-- `charring::fires::is_clad` meets its contract: only an unclad panel has no boards. Assumes nothing.
+use mathlib.Core.Bool.{true}
+use mathlib.Core.Path.{◌≡◌, refl}
+use Rattle.panel.specs.declared.Cladding.{Cladding}
+use Rattle.panel.specs.declared.Cladding.TheVariants.{Unclad, One, Two}
 use Rattle.charring.specs.Fires.{clad}
+use Rattle.charring.proofs.fires.is_clad.Goals.{in-Unclad, in_default}
 use Rattle.charring.proofs.fires.is_clad.Goals as goal
 
-pub returns-in-Unclad : goal.returns-in-Unclad
+with_boards : (c : Cladding) → (c ≡ Unclad → ⊥) → true ≡ clad c
 unfolding clad
-returns-in-Unclad c = rw c.in-Unclad.is
+with_boards Unclad h = absurd (h refl)
+with_boards (One b) h = refl
+with_boards (Two outer inner) h = refl
 
-pub returns-in-One : goal.returns-in-One
+pub returns : goal.returns
 unfolding clad
-returns-in-One c = rw c.in-One.is
-
-pub returns-in-Two : goal.returns-in-Two
-unfolding clad
-returns-in-Two c = rw c.in-Two.is
+returns c =
+    elim c.match-matches.branch [
+      | in-Unclad w ↦ rw (w.matches-is, w.in-Unclad.is)
+      | in_default w ↦ rw w.matches-is (with_boards c.args.c w.in_default.not-Unclad)
+    ]

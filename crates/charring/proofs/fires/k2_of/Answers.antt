@@ -1,4 +1,7 @@
 -- `charring::fires::k2_of` meets its contract: each arm is one case of `k2`. Assumes nothing.
+use Prim.Native.Nat.{ℕ, ◌-◌, ◌*◌}
+use mathlib.Core.Logic.{⊎_elim}
+use mathlib.Core.Path.{ap, ◌∙◌}
 use Rattle.charring.specs.Fires.{k2}
 use Rattle.charring.proofs.fires.k2_of.Goals as goal
 
@@ -8,8 +11,7 @@ returns-in-Unclad c = rw c.in-Unclad.is
 
 pub returns-in-One : goal.returns-in-One
 unfolding k2
-returns-in-One c = rw c.in-One.is c.k2_behind.ensures.0
-
-pub returns-in-Two : goal.returns-in-Two
-unfolding k2
-returns-in-Two c = rw c.in-Two.is c.k2_behind-in-Two.ensures.0
+returns-in-One c =
+    c.saturating_sub.ensures
+    ∙ ap (λ (h : ℕ). 10000 - 18 * h) c.from.ensures
+    ∙ ⊎_elim (λ one. rw one) (λ two. rw two.1) c.in-One.is

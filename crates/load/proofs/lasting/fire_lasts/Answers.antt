@@ -1,4 +1,5 @@
 -- `load::lasting::fire_lasts` meets its contract: the depth at a time lies within the panel. Assumes nothing.
+use Rattle.charring.proofs.Minutes.{tenths_same}
 use Rattle.charring.proofs.DepthBounds.{tenths_within}
 use Rattle.load.specs.LoadMinute.{every_from, time_test}
 use Rattle.section.specs.Tests.{depth_passes}
@@ -11,8 +12,12 @@ every_depth_passes-requires c =
     let fits = c.requires.section_fits.0 in
     let thick = fits.thickness in
     let within = tenths_within c.args.p c.args.minute 1 (omega arith) in
-    (fits, omega (arith, c.tenths_in.ensures))
+    let depth = c.tenths-depth.ensures ∙ tenths_same c.of.ensures (c.minute.ensures.0 ∙ c.from.ensures) c.minute.ensures.1 in
+    (fits, omega (arith, depth))
 
 pub returns : goal.returns
 unfolding time_test
-returns c = c.every_depth_passes.ensures ∙ ap (every_from (depth_passes c.args.p) 0) c.tenths_in.ensures
+returns c =
+    c.every_depth_passes.ensures
+    ∙ ap (every_from (depth_passes c.args.p) 0)
+    (c.from-2.ensures ∙ c.tenths-depth.ensures ∙ tenths_same c.of.ensures (c.minute.ensures.0 ∙ c.from.ensures) c.minute.ensures.1)

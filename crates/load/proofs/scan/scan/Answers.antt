@@ -1,6 +1,7 @@
 -- `load::scan::scan` meets its contract: `second` passes and `beyond` does not, until they are neighbours. Assumes nothing.
 use Prim.Native.Nat.{ℕ, suc}
 use Rattle.charring.specs.Depths.{tenths_at}
+use Rattle.charring.proofs.Minutes.{tenths_same}
 use Rattle.load.proofs.LastPassing.{time_by_depth}
 use Rattle.load.proofs.LoadMinutes.{test_zero, whole_found}
 use Rattle.load.specs.LastPassing.{last_passing}
@@ -23,16 +24,17 @@ pub loop-second-init : goal.loop-second-init
 loop-second-init c =
     (omega arith, (omega arith, (test_zero c.args.p 60 (omega arith) c.requires.section_fits.1.1, λ h. absurd (let z : ⊥ = omega arith in z))))
 
-pub loop-second-preserved-then-tenths_in-last : goal.loop-second-preserved-then-tenths_in-last
-loop-second-preserved-then-tenths_in-last c =
-    let tenths = c.tenths_in in
-    let last = c.last_passing-last in (
+pub loop-second-preserved-then-from-last : goal.loop-second-preserved-then-from-last
+loop-second-preserved-then-from-last c =
+    let tenths = c.from in
+    let last = c.last_passing-last in
+    let is = tenths.ensures ∙ c.tenths.ensures ∙ tenths_same c.of-fire.ensures c.second.ensures.0 c.second.ensures.1 in (
       omega arith,
       (
         c.loop-second.invariant.1.0,
         (
-          decided c.args.p _ tenths.result last.result c.requires.section_fits.1.1 tenths.ensures last.ensures
-              ∙ le-leb tenths.result last.result c.if-tenths_in-last.true,
+          decided c.args.p _ tenths.result last.result c.requires.section_fits.1.1 is last.ensures
+              ∙ le-leb tenths.result last.result c.if-from-last.true,
           c.loop-second.invariant.1.1.1,
         ),
       ),
@@ -40,14 +42,15 @@ loop-second-preserved-then-tenths_in-last c =
 
 pub loop-second-preserved : goal.loop-second-preserved
 loop-second-preserved c =
-    let tenths = c.tenths_in in
-    let last = c.last_passing-last in (
+    let tenths = c.from in
+    let last = c.last_passing-last in
+    let is = tenths.ensures ∙ c.tenths.ensures ∙ tenths_same c.of-fire.ensures c.second.ensures.0 c.second.ensures.1 in (
       omega arith,
       (
         omega arith,
         (
           c.loop-second.invariant.1.1.0,
-          λ _. decided c.args.p _ tenths.result last.result c.requires.section_fits.1.1 tenths.ensures last.ensures
+          λ _. decided c.args.p _ tenths.result last.result c.requires.section_fits.1.1 is last.ensures
               ∙ lt-leb tenths.result last.result (omega arith),
         ),
       ),

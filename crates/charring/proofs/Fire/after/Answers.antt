@@ -1,0 +1,25 @@
+-- `charring::Fire::after` meets its contract. The loop's invariant: what will come out is unchanged.
+use mathlib.Core.Path.{ap, ◌∙◌}
+use native.Mathlib.Omega.{arith}
+use Rattle.charring.specs.Ways.{lines_left}
+use Rattle.charring.proofs.Ways.{walk_start, walk_more, walk_end}
+use Rattle.charring.proofs.Fire.after.Goals as goal
+
+pub loop-line-init : goal.loop-line-init
+loop-line-init c =
+    let f = c.args.self.now in
+    let place = c.at_failure-place in
+    walk_start f.panel c.args.at.n c.args.at.q place.result _ f.back place.ensures.start place.ensures.left
+    (ap lines_left c.into_iter-line-iterator.ensures.into_iter_gives ∙ c.of-line-items.ensures) f.back_is
+
+pub loop-line-preserved : goal.loop-line-preserved
+loop-line-preserved c =
+    walk_more c.args.at.q c.loop-line.place c.pass-place.result c.args.self.now.back c.in-Some.line _ _ c.in-Some.ensures.steps c.pass-place.ensures
+    ∙ c.loop-line.invariant
+
+pub returns : goal.returns
+returns c = (
+  walk_end c.args.at.q c.loop-line.place c.cross.result c.args.self.now.back c.args.self.now.back _ c.in-None.ensures.steps.0 c.cross.ensures
+      ∙ c.loop-line.invariant,
+  omega arith,
+)

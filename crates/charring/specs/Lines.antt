@@ -1,0 +1,6 @@
+-- Lamellae by their thicknesses: for bond lines directions do not matter.
+use Rattle.std.specs.Prelude.{ℕ, List, map}
+use Rattle.panel.specs.Lamellae.{Lamella, lamella}
+
+abbrev pub lain : List ℕ → List Lamella
+lain ts = map (lamella 0) ts

@@ -1,0 +1,83 @@
+// The bond lines that matter, one after the other from the exposed face.
+ghost use Rattle.std.specs.Prelude.{◌≡◌, ◌+◌, ◌*◌, ◌≤◌};
+ghost use Rattle.panel.specs.Lamellae.{thickness};
+ghost use Rattle.charring.specs.Fires.{tenth, fast_run, lines_from, line_end};
+ghost use Rattle.charring.specs.Fits.{FireFits};
+ghost use Rattle.charring.specs.Lines.{lain};
+
+use crate::{FAST_RUN, TENTH};
+use panel::Panel;
+
+// A line: its depth, and where a run that starts there ends.
+#[derive(Clone, Copy)]
+pub(crate) struct Line {
+    pub at: u64,
+    pub end: u64,
+    ghost at_most: { at ≤ 400000000000 },
+    ghost end_most: { end ≤ 425000000000 },
+}
+
+// The lines below a depth, where the lamellae that are left begin, by their thicknesses.
+#[derive(Clone, Copy)]
+pub(crate) struct Lines<'a> {
+    pub top: u64,
+    pub rest: &'a [u16],
+    ghost within: { top + tenth * thickness (lain rest.now) ≤ 400000000000 },
+}
+
+// 25 mm past a line or at the next line, whichever is nearer, by the lamellae below it.
+fn run_end(line: u64, rest: &[u16]) -> u64
+    requires { line ≤ 400000000000 }
+    ensures { (result ≡ line_end line (lines_from line (lain rest.now))) × (result ≤ line + fast_run) }
+{
+    let past = line + FAST_RUN;
+    match rest {
+        [next, _, ..] => past.min(line + TENTH * u64::from(*next)),
+        _ => past,
+    }
+}
+
+impl<'a> Lines<'a> {
+    ghost use Rattle.charring.specs.Fires.{bond_lines};
+    ghost use Rattle.charring.specs.Ways.{lines_left};
+
+    // The lines of a panel. Where the bond holds there are none. No open call: the limits must hold.
+    pub(crate) fn of(p: &'a Panel) -> Lines<'a>
+        requires { FireFits p.now }
+        ensures { lines_left result ≡ bond_lines p.now }
+    {
+        if p.bond != 1 {
+            return Lines { top: 0, rest: &[] };
+        }
+        Lines {
+            top: 0,
+            rest: &p.thicknesses[..p.count],
+        }
+    }
+}
+
+impl Iterator for Lines<'_> {
+    ghost use Rattle.std.specs.Iterator.{item_count};
+    ghost use Rattle.charring.specs.Ways.{lines_left, GivesLine};
+
+    type Item = Line;
+
+    ghost next_gives = { GivesLine };
+
+    ghost remaining = { item_count lines_left };
+
+    fn next(&mut self) -> Option<Line> {
+        let (first, rest) = self.rest.split_first()?;
+        if rest.is_empty() {
+            // The back face is no line.
+            return None;
+        }
+        let at = self.top + TENTH * u64::from(*first);
+        self.top = at;
+        self.rest = rest;
+        Some(Line {
+            at,
+            end: run_end(at, rest),
+        })
+    }
+}
