@@ -1,5 +1,5 @@
 // A search for the last number that keeps a test.
-ghost use Rattle.std.specs.Prelude.{◌≡◌, ◌+◌, ◌<◌, ℕ, true, false};
+ghost use Rattle.std.specs.Prelude.{◌+◌, ◌<◌, ℕ, true, false};
 
 // By halving, below `beyond`: a number that keeps the test, or 0 untested, and the next does not, or is `beyond`. Of a test that smaller
 // numbers keep too it is the last. No open call: the test must take every number below `beyond`, which is not 0.
