@@ -2,6 +2,7 @@
 use Prim.Native.Nat.{ℕ, zero, suc, ◌+◌, ◌-◌, ◌^◌, ◌<◌, ◌≤◌}
 use mathlib.Core.Path.{◌≡◌, refl, sym, ap, subst, ◌∙◌}
 use mathlib.Core.Bool.{Bool, true, false}
+use mathlib.Core.List.{List}
 use native.Mathlib.Omega.{arith}
 use native.Mathlib.Nat.{add-zero, add-suc, suc-add}
 use lib.Dec.{T}
@@ -13,7 +14,7 @@ use Rattle.panel.specs.Materials.{thinnest, thickest}
 use Rattle.limits.specs.Keeps.{ThicknessKeeps}
 use Rattle.basic_times.specs.declared.Role.{Role}
 use Rattle.basic_times.specs.Rules.{longest_time, Rule, keeps, rule_of, basic_time}
-use Rattle.basic_times.specs.Tables.{bits, by_bits, times, InTable, entry_at}
+use Rattle.basic_times.specs.Tables.{bits, by_bits, times, table_of, InTable, entry_at}
 use Rattle.basic_times.proofs.Rule.{keeps_down, bounded, zero_kept, longer_not_kept, all_bounded, basic_largest, time_kept}
 
 -- bit by bit the largest number is found that keeps a test which smaller numbers keep too
@@ -53,13 +54,12 @@ table_entry role m place within =
     ∙ largest_unique (keeps r h) (by_bits (keeps r h) bits 0) (basic_time role m h)
     (time_largest r (thickest m) (all_bounded role m) h within) (basic_largest role m h within)
 
--- what is read of the table of the role that was found
+-- what is read of a table that is held to its rule
 pub time_read :
-    (role own : Role) (m : Material) (h place : ℕ) {r : ℕ} → role ≡ own → ThicknessKeeps m h → place ≡ h - thinnest m → r ≡ entry_at own m place
-    → (r ≡ basic_time role m h) × (r ≤ longest_time)
-time_read role own m h place e keep at read =
+    (role : Role) (m : Material) (h place : ℕ) (entries : List ℕ) → entries ≡ table_of role m → ThicknessKeeps m h → place ≡ h - thinnest m
+    → (get_or entries place 0 ≡ basic_time role m h) × (get_or entries place 0 ≤ longest_time)
+time_read role m h place entries e keep at =
     let least = keep.least in
     let most = keep.most in
     time_kept role m h
-    (read ∙ table_entry own m place (omega arith)
-    ∙ ap (λ (k : ℕ). basic_time own m k) (omega arith) ∙ ap (λ (x : Role). basic_time x m h) (sym e))
+    (ap (λ (xs : List ℕ). get_or xs place 0) e ∙ table_entry role m place (omega arith) ∙ ap (λ (k : ℕ). basic_time role m k) (omega arith))

@@ -1,5 +1,15 @@
 // Gypsum boards, insulation: 24·(h/15)^1.4 min, in hundredths of a minute, rounded down, for 9.0 to 25.0 mm.
-pub(crate) const TABLE: [u32; 161] = [
+use crate::Role;
+use crate::times::Table;
+use panel::Material;
+
+pub(crate) const TIMES: Table = Table {
+    role: Role::Insulation,
+    material: Material::Gypsum,
+    entries: &TABLE,
+};
+
+const TABLE: [u32; 161] = [
     1173, 1192, 1210, 1229, 1247, 1266, 1284, 1303, 1322, 1341, 1360, 1379, 1398, 1417, 1437, 1456,
     1476, 1495, 1515, 1534, 1554, 1574, 1594, 1614, 1634, 1654, 1674, 1694, 1715, 1735, 1756, 1776,
     1797, 1817, 1838, 1859, 1880, 1901, 1922, 1943, 1964, 1985, 2006, 2028, 2049, 2070, 2092, 2113,

@@ -1,5 +1,15 @@
 // Gypsum boards, protection: 30·(h/15)^1.2 min, in hundredths of a minute, rounded down, for 9.0 to 25.0 mm.
-pub(crate) const TABLE: [u32; 161] = [
+use crate::Role;
+use crate::times::Table;
+use panel::Material;
+
+pub(crate) const TIMES: Table = Table {
+    role: Role::Protection,
+    material: Material::Gypsum,
+    entries: &TABLE,
+};
+
+const TABLE: [u32; 161] = [
     1625, 1646, 1668, 1690, 1712, 1734, 1756, 1778, 1800, 1822, 1844, 1866, 1888, 1910, 1933, 1955,
     1977, 2000, 2022, 2045, 2067, 2090, 2112, 2135, 2158, 2180, 2203, 2226, 2249, 2272, 2295, 2318,
     2341, 2364, 2387, 2410, 2433, 2456, 2480, 2503, 2526, 2549, 2573, 2596, 2620, 2643, 2667, 2690,

@@ -1,5 +1,15 @@
 // OSB boards, insulation: 16·(h/20)^1.4 min, in hundredths of a minute, rounded down, for 20.0 to 40.0 mm.
-pub(crate) const TABLE: [u32; 201] = [
+use crate::Role;
+use crate::times::Table;
+use panel::Material;
+
+pub(crate) const TIMES: Table = Table {
+    role: Role::Insulation,
+    material: Material::Osb,
+    entries: &TABLE,
+};
+
+const TABLE: [u32; 201] = [
     1600, 1611, 1622, 1633, 1644, 1656, 1667, 1678, 1690, 1701, 1713, 1724, 1735, 1747, 1758, 1770,
     1782, 1793, 1805, 1816, 1828, 1840, 1851, 1863, 1875, 1886, 1898, 1910, 1922, 1933, 1945, 1957,
     1969, 1981, 1993, 2005, 2017, 2029, 2041, 2053, 2065, 2077, 2089, 2101, 2113, 2125, 2137, 2150,

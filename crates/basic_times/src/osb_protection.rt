@@ -1,5 +1,15 @@
 // OSB boards, protection: 23·(h/20)^1.1 min, in hundredths of a minute, rounded down, for 20.0 to 40.0 mm.
-pub(crate) const TABLE: [u32; 201] = [
+use crate::Role;
+use crate::times::Table;
+use panel::Material;
+
+pub(crate) const TIMES: Table = Table {
+    role: Role::Protection,
+    material: Material::Osb,
+    entries: &TABLE,
+};
+
+const TABLE: [u32; 201] = [
     2300, 2312, 2325, 2337, 2350, 2363, 2376, 2388, 2401, 2414, 2426, 2439, 2452, 2464, 2477, 2490,
     2503, 2515, 2528, 2541, 2554, 2567, 2579, 2592, 2605, 2618, 2630, 2643, 2656, 2669, 2682, 2695,
     2707, 2720, 2733, 2746, 2759, 2772, 2785, 2797, 2810, 2823, 2836, 2849, 2862, 2875, 2888, 2901,

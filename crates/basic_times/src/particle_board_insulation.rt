@@ -1,5 +1,15 @@
 // Particle boards, insulation: 22·(h/20)^1.4 min, in hundredths of a minute, rounded down, for 20.0 to 40.0 mm.
-pub(crate) const TABLE: [u32; 201] = [
+use crate::Role;
+use crate::times::Table;
+use panel::Material;
+
+pub(crate) const TIMES: Table = Table {
+    role: Role::Insulation,
+    material: Material::ParticleBoard,
+    entries: &TABLE,
+};
+
+const TABLE: [u32; 201] = [
     2200, 2215, 2230, 2246, 2261, 2277, 2292, 2308, 2324, 2339, 2355, 2371, 2386, 2402, 2418, 2434,
     2450, 2466, 2482, 2498, 2514, 2530, 2546, 2562, 2578, 2594, 2610, 2626, 2642, 2659, 2675, 2691,
     2708, 2724, 2740, 2757, 2773, 2790, 2806, 2823, 2839, 2856, 2872, 2889, 2906, 2922, 2939, 2956,

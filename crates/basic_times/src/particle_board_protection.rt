@@ -1,5 +1,15 @@
 // Particle boards, protection: 33·(h/20)^1.1 min, in hundredths of a minute, rounded down, for 20.0 to 40.0 mm.
-pub(crate) const TABLE: [u32; 201] = [
+use crate::Role;
+use crate::times::Table;
+use panel::Material;
+
+pub(crate) const TIMES: Table = Table {
+    role: Role::Protection,
+    material: Material::ParticleBoard,
+    entries: &TABLE,
+};
+
+const TABLE: [u32; 201] = [
     3300, 3318, 3336, 3354, 3372, 3390, 3409, 3427, 3445, 3463, 3481, 3500, 3518, 3536, 3554, 3573,
     3591, 3609, 3628, 3646, 3664, 3683, 3701, 3719, 3738, 3756, 3774, 3793, 3811, 3830, 3848, 3866,
     3885, 3903, 3922, 3940, 3958, 3977, 3995, 4014, 4032, 4051, 4069, 4088, 4106, 4125, 4143, 4162,

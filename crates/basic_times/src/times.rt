@@ -1,82 +1,32 @@
-// The basic time of a layer, from the table of its role and material: each table is indexed from the thinnest layer on. A table is held to its
-// rule where it is read, by computing its list (`table_of`).
+// The basic time of a layer, from the table of its role and material.
 ghost use Rattle.std.specs.Prelude.{◌≡◌, ◌≤◌};
 ghost use Rattle.limits.specs.Keeps.{ThicknessKeeps};
-ghost use Rattle.basic_times.specs.declared.Role.TheVariants.{Protection, Insulation};
 ghost use Rattle.basic_times.specs.Rules.{longest_time, basic_time};
-ghost use Rattle.basic_times.specs.Tables.{InTable, entry_at};
+ghost use Rattle.basic_times.specs.Tables.{table_of};
 
-use crate::Role;
+use crate::{
+    Role, gypsum_insulation, gypsum_protection, osb_insulation, osb_protection,
+    particle_board_insulation, particle_board_protection, wood_insulation, wood_protection,
+};
 use panel::Material;
 use panel::materials::thinnest;
 
-// A place in the tables of m is one in those of the material that m is. Nothing is done: this is said for the proof, once for every table.
-fn lies_in(own: Material, m: Material, place: usize)
-    requires { (m ≡ own) × InTable m place }
-    ensures { InTable own place }
-{}
-
-// And an entry of that material is the one of m.
-fn entry_of(role: Role, own: Material, m: Material, place: usize, entry: u32) -> u32
-    requires { (m ≡ own) × (entry ≡ entry_at role own place) }
-    ensures { result ≡ entry_at role m place }
-{
-    entry
+// The basic times of a role and a material, from the thinnest layer on. They are held to their rule by computing its list.
+#[derive(Clone, Copy)]
+pub(crate) struct Table {
+    pub(crate) role: Role,
+    pub(crate) material: Material,
+    pub(crate) entries: &'static [u32],
+    ghost by_the_rule: { entries.now ≡ table_of role material },
 }
 
-fn protection(m: Material, place: usize) -> u32
-    requires { InTable m place }
-    ensures { result ≡ entry_at Protection m place }
-{
-    match m {
-        Material::Gypsum => {
-            lies_in(Material::Gypsum, m, place);
-            let entry = crate::gypsum_protection::TABLE[place];
-            entry_of(Role::Protection, Material::Gypsum, m, place, entry)
-        }
-        Material::Wood => {
-            lies_in(Material::Wood, m, place);
-            let entry = crate::wood_protection::TABLE[place];
-            entry_of(Role::Protection, Material::Wood, m, place, entry)
-        }
-        Material::Osb => {
-            lies_in(Material::Osb, m, place);
-            let entry = crate::osb_protection::TABLE[place];
-            entry_of(Role::Protection, Material::Osb, m, place, entry)
-        }
-        Material::ParticleBoard => {
-            lies_in(Material::ParticleBoard, m, place);
-            let entry = crate::particle_board_protection::TABLE[place];
-            entry_of(Role::Protection, Material::ParticleBoard, m, place, entry)
-        }
-    }
-}
-
-fn insulation(m: Material, place: usize) -> u32
-    requires { InTable m place }
-    ensures { result ≡ entry_at Insulation m place }
-{
-    match m {
-        Material::Gypsum => {
-            lies_in(Material::Gypsum, m, place);
-            let entry = crate::gypsum_insulation::TABLE[place];
-            entry_of(Role::Insulation, Material::Gypsum, m, place, entry)
-        }
-        Material::Wood => {
-            lies_in(Material::Wood, m, place);
-            let entry = crate::wood_insulation::TABLE[place];
-            entry_of(Role::Insulation, Material::Wood, m, place, entry)
-        }
-        Material::Osb => {
-            lies_in(Material::Osb, m, place);
-            let entry = crate::osb_insulation::TABLE[place];
-            entry_of(Role::Insulation, Material::Osb, m, place, entry)
-        }
-        Material::ParticleBoard => {
-            lies_in(Material::ParticleBoard, m, place);
-            let entry = crate::particle_board_insulation::TABLE[place];
-            entry_of(Role::Insulation, Material::ParticleBoard, m, place, entry)
-        }
+impl Table {
+    // No open call: a layer of the material must be allowed the thickness.
+    fn at(self, h: u16) -> u32
+        requires { ThicknessKeeps self.material h }
+        ensures { (result ≡ basic_time self.role self.material h) × (result ≤ longest_time) }
+    {
+        self.entries[usize::from(h - thinnest(self.material))]
     }
 }
 
@@ -85,9 +35,14 @@ pub fn time_at(role: Role, m: Material, h: u16) -> u32
     requires { ThicknessKeeps m h }
     ensures { (result ≡ basic_time role m h) × (result ≤ longest_time) }
 {
-    let place = (h - thinnest(m)) as usize;
-    match role {
-        Role::Protection => protection(m, place),
-        Role::Insulation => insulation(m, place),
+    match (role, m) {
+        (Role::Protection, Material::Gypsum) => gypsum_protection::TIMES.at(h),
+        (Role::Insulation, Material::Gypsum) => gypsum_insulation::TIMES.at(h),
+        (Role::Protection, Material::Wood) => wood_protection::TIMES.at(h),
+        (Role::Insulation, Material::Wood) => wood_insulation::TIMES.at(h),
+        (Role::Protection, Material::Osb) => osb_protection::TIMES.at(h),
+        (Role::Insulation, Material::Osb) => osb_insulation::TIMES.at(h),
+        (Role::Protection, Material::ParticleBoard) => particle_board_protection::TIMES.at(h),
+        (Role::Insulation, Material::ParticleBoard) => particle_board_insulation::TIMES.at(h),
     }
 }

@@ -1,5 +1,15 @@
 // Lamellae, insulation: 19·(h/20)^1.4 min, in hundredths of a minute, rounded down, for 10.0 to 60.0 mm.
-pub(crate) const TABLE: [u32; 501] = [
+use crate::Role;
+use crate::times::Table;
+use panel::Material;
+
+pub(crate) const TIMES: Table = Table {
+    role: Role::Insulation,
+    material: Material::Wood,
+    entries: &TABLE,
+};
+
+const TABLE: [u32; 501] = [
     719, 730, 740, 750, 760, 770, 781, 791, 801, 812, 822, 833, 843, 854, 864, 875, 886, 896, 907,
     918, 929, 940, 951, 962, 972, 983, 995, 1006, 1017, 1028, 1039, 1050, 1061, 1073, 1084, 1095,
     1107, 1118, 1130, 1141, 1153, 1164, 1176, 1187, 1199, 1211, 1222, 1234, 1246, 1258, 1270, 1281,

@@ -1,5 +1,15 @@
 // Lamellae, protection: 30·(h/20)^1.1 min, in hundredths of a minute, rounded down, for 10.0 to 60.0 mm.
-pub(crate) const TABLE: [u32; 501] = [
+use crate::Role;
+use crate::times::Table;
+use panel::Material;
+
+pub(crate) const TIMES: Table = Table {
+    role: Role::Protection,
+    material: Material::Wood,
+    entries: &TABLE,
+};
+
+const TABLE: [u32; 501] = [
     1399, 1414, 1430, 1445, 1461, 1476, 1492, 1507, 1523, 1538, 1554, 1569, 1585, 1600, 1616, 1632,
     1647, 1663, 1679, 1694, 1710, 1726, 1741, 1757, 1773, 1788, 1804, 1820, 1836, 1851, 1867, 1883,
     1899, 1915, 1931, 1946, 1962, 1978, 1994, 2010, 2026, 2042, 2058, 2074, 2090, 2106, 2122, 2138,

@@ -1,14 +1,13 @@
 -- The late layer time: the numbers with 4·n²·S ≤ t³, where t < 2S.
 use Prim.Native.Nat.{ℕ, ◌+◌, ◌*◌, ◌<◌, ◌≤◌}
-use mathlib.Core.Path.{◌≡◌, refl, sym}
+use mathlib.Core.Path.{◌≡◌, refl}
 use mathlib.Core.Bool.{Bool, true, false}
 use native.Mathlib.Omega.{arith}
-use native.Mathlib.Numerals.{add-one}
 use native.Mathlib.Nat.{le_trans, mul-le-mul, mul-le-mul_left, mul-le-mul_right}
 use borrow.Author.Tests.{leb-true, le-leb, lt-leb}
-use Rattle.numbers.specs.Largest.{largest, IsLargest}
+use Rattle.numbers.specs.Largest.{IsLargest}
 use Rattle.numbers.proofs.Booleans.{not_both}
-use Rattle.numbers.proofs.LargestKept.{largest_is, largest_by_next, largest_found}
+use Rattle.numbers.proofs.LargestKept.{largest_found}
 use Rattle.layers.specs.Layers.{late_keeps, positioned}
 
 -- smaller numbers keep the test too
@@ -27,12 +26,6 @@ pub late_beyond : (s t : ℕ) → t < 2 * s → late_keeps s t (t + 1) ≡ false
 late_beyond s t h =
     let k : t + 1 ≤ 2 * s = omega arith in
     lt-leb (4 * (t + 1) * (t + 1) * s) (t * t * t) (omega (arith, mul-le-mul_left (2 * (t + 1) * (t + 1)) k))
-
--- a number that keeps it, with the next that does not, is the late layer time
-pub late_found :
-    (s t n : ℕ) → t < 2 * s → late_keeps s t n ≡ true → late_keeps s t (n + 1) ≡ false → n ≤ t → n ≡ largest (late_keeps s t) t
-late_found s t n h e f l =
-    sym (largest_is (late_keeps s t) t n (largest_by_next (late_keeps s t) (late_down s t) n e (rw add-one at f)) l)
 
 -- What the layer step says
 

@@ -1,5 +1,5 @@
 // EI of an accepted panel, for calls that have checked the panel's lines.
-ghost use Rattle.std.specs.Prelude.{◌≡◌, ◌≤◌, min};
+ghost use Rattle.std.specs.Prelude.{◌≡◌, ◌≤◌};
 ghost use Rattle.limits.specs.Causes.{last_minute};
 ghost use Rattle.limits.specs.Refusals.{panel_refusal};
 ghost use Rattle.layers.specs.Layers.{printed_ei, least_sum};
@@ -7,17 +7,8 @@ ghost use Rattle.layers.specs.Layers.{printed_ei, least_sum};
 use crate::sums::ei_sum_of;
 use basic_times::PARTS_PER_MINUTE;
 use limits::LAST_MINUTE;
-use numbers::words32::lesser;
 use panel::Panel;
 use panel::faces::{shown, turned};
-
-const LAST: u32 = LAST_MINUTE as u32;
-
-fn at_most_last(x: u32) -> u32
-    ensures { (result ≡ min x last_minute) × (result ≤ last_minute) }
-{
-    if x <= LAST { x } else { LAST }
-}
 
 // The sum of the layer times, the lesser of two fires. No open call: no line may turn the panel back.
 pub(crate) fn least_sum_of(p: Panel) -> u32
@@ -28,7 +19,7 @@ pub(crate) fn least_sum_of(p: Panel) -> u32
     if p.face < 2 {
         return sum;
     }
-    lesser(sum, ei_sum_of(turned(p)))
+    sum.min(ei_sum_of(turned(p)))
 }
 
 // EI in whole minutes, the lesser of two fires. No open call: no line may turn the panel back.
@@ -36,5 +27,5 @@ pub fn ei_minute_of(p: Panel) -> u32
     requires { panel_refusal p ≡ 0 }
     ensures { (result ≡ printed_ei p) × (result ≤ last_minute) }
 {
-    at_most_last(least_sum_of(p) / PARTS_PER_MINUTE)
+    (least_sum_of(p) / PARTS_PER_MINUTE).min(u32::from(LAST_MINUTE))
 }

@@ -6,9 +6,8 @@ ghost use Rattle.basic_times.specs.Rules.{longest_time};
 ghost use Rattle.layers.specs.Bounds.{longest_sum};
 ghost use Rattle.layers.specs.Layers.{late_keeps, positioned, layer_time};
 
+use numbers::search::last_keeping;
 use panel::WHOLE_JOINT;
-
-const WHOLE: u64 = WHOLE_JOINT as u64;
 
 fn late_keeps(s: u64, t: u64, n: u64) -> bool
     requires { (s ≤ longest_sum) × ((t ≤ longest_time) × (n ≤ longest_time + 1)) }
@@ -17,22 +16,12 @@ fn late_keeps(s: u64, t: u64, n: u64) -> bool
     4 * n * n * s <= t * t * t
 }
 
-// The largest n with 4·n²·S ≤ t³, by halving: n keeps the test and beyond does not.
+// The largest n with 4·n²·S ≤ t³, which is not above t.
 fn late_time(s: u64, t: u64) -> u64
-    requires { (s ≤ longest_sum) × ((t ≤ longest_time) × (t < 2 * s)) }
+    requires { (s ≤ longest_sum) × (t ≤ longest_time) }
     ensures { (result ≡ largest (late_keeps s t) t) × (result ≤ t) }
 {
-    let mut n: u64 = 0;
-    let mut beyond: u64 = t + 1;
-    while n + 1 < beyond {
-        let middle = n + (beyond - n) / 2;
-        if late_keeps(s, t, middle) {
-            n = middle;
-        } else {
-            beyond = middle;
-        }
-    }
-    n
+    last_keeping(t + 1, |n| late_keeps(s, t, n))
 }
 
 // Before its joint coefficient.
@@ -51,6 +40,6 @@ pub(crate) fn layer_time(s: u32, t: u32, joint: u8) -> u32
     requires { (s ≤ longest_sum) × ((t ≤ longest_time) × (joint ≤ whole_joint)) }
     ensures { (result ≡ layer_time s t joint) × (result ≤ t) }
 {
-    let n = position(s as u64, t as u64);
-    (n * (joint as u64) / WHOLE) as u32
+    let n = position(u64::from(s), u64::from(t));
+    (n * u64::from(joint) / u64::from(WHOLE_JOINT)) as u32
 }

@@ -53,11 +53,9 @@ fn protected(s: u32, thicknesses: [u16; 9], n: usize) -> u32
     ensures { ((gs : List ℕ) → result ≡ protected_after s (map lamella_layer (lamellae_of gs thicknesses n))) × (result ≤ 10 * longest_time) }
 {
     let mut sum = s;
-    let mut i = 0;
-    while i < n {
-        let t = time_at(Role::Protection, Material::Wood, thicknesses[i]);
+    for &thickness in &thicknesses[..n] {
+        let t = time_at(Role::Protection, Material::Wood, thickness);
         sum = with_time(sum, t, WHOLE_JOINT);
-        i += 1;
     }
     sum
 }

@@ -1,5 +1,5 @@
 // The load minute of an accepted panel and the same in seconds, for calls that have checked the panel's lines.
-ghost use Rattle.std.specs.Prelude.{◌≡◌, min};
+ghost use Rattle.std.specs.Prelude.{◌≡◌};
 ghost use Rattle.limits.specs.Refusals.{panel_refusal};
 ghost use Rattle.load.specs.LoadMinute.{printed_load, load_seconds, printed_load_seconds, minutes_in, seconds_over};
 
@@ -15,12 +15,6 @@ fn fire_seconds(p: Panel) -> u16
     scan(p)
 }
 
-fn lesser(a: u16, b: u16) -> u16
-    ensures { result ≡ min a b }
-{
-    if a <= b { a } else { b }
-}
-
 // The lesser of two fires. No open call: no line may turn the panel back.
 pub fn load_seconds_of(p: Panel) -> u16
     requires { panel_refusal p ≡ 0 }
@@ -30,7 +24,7 @@ pub fn load_seconds_of(p: Panel) -> u16
     if p.face < 2 {
         return seconds;
     }
-    lesser(seconds, fire_seconds(turned(p)))
+    seconds.min(fire_seconds(turned(p)))
 }
 
 // The whole minutes in so many seconds.

@@ -11,6 +11,7 @@ ghost use Rattle.load.specs.LoadMinute.{load_seconds};
 use charring::{Fire, Time};
 use limits::LAST_MINUTE;
 use limits::causes::total_thickness;
+use numbers::search::last_keeping;
 use panel::Panel;
 use panel::timber::factor_of;
 use section::carry::{carried_at_start, deeper};
@@ -39,7 +40,7 @@ fn last_passing(p: Panel) -> u64
     c.depth
 }
 
-// By halving: every depth to that of `second` passes; to that of `beyond` not all do, or it is past the last minute.
+// The last second whose depth is no deeper than the last to which every depth passes.
 pub(crate) fn scan(p: Panel) -> u16
     requires section_fits { SectionFits p × (EachThick (lamellae p) × (depth_passes p 0 ≡ true)) }
     requires fire_fits { FireFits p }
@@ -47,15 +48,9 @@ pub(crate) fn scan(p: Panel) -> u16
 {
     let last = last_passing(p);
     let fire = Fire::of(p);
-    let mut second: u64 = 0;
-    let mut beyond: u64 = 60 * LAST_MINUTE as u64 + 1;
-    while second + 1 < beyond {
-        let middle = second + (beyond - second) / 2;
-        if u64::from(fire.tenths(Time::second(middle))) <= last {
-            second = middle;
-        } else {
-            beyond = middle;
-        }
-    }
-    second as u16
+    let beyond = 60 * u64::from(LAST_MINUTE) + 1;
+    last_keeping(
+        beyond,
+        |second| u64::from(fire.tenths(Time::second(second))) <= last,
+    ) as u16
 }

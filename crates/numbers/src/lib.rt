@@ -3,6 +3,7 @@
 #![tactic(auto)]
 
 pub mod bytes;
+pub mod search;
 pub mod sizes;
 pub mod words32;
 pub mod words64;

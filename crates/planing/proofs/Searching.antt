@@ -1,7 +1,9 @@
 -- Where the search may stop: the amounts that were tried decide.
 use Prim.Native.Nat.{ℕ, suc, ◌≤◌, ◌<◌}
-use mathlib.Core.Path.{◌≡◌, refl, ap}
-use mathlib.Core.Bool.{false}
+use mathlib.Core.Path.{◌≡◌, refl, sym, ap}
+use mathlib.Core.Bool.{true, false}
+use Rattle.std.proofs.Common.{Option, Some, None}
+use Rattle.std.specs.Option.{MatchOption}
 use native.Mathlib.Omega.{arith}
 use native.Mathlib.Nat.{le_refl}
 use borrow.Author.Tests.{lt-ltb, le-ltb}
@@ -43,3 +45,25 @@ module _ (p : Panel) (tenths : ℕ) (before : (k : ℕ) → k < tenths → NoneF
       least_is (λ (n : ℕ). ltb (first_behind p n) p.count) (suc most_cut) (suc most_cut) (le_refl (suc most_cut))
       (λ k l. before k (omega arith)) (λ l. absurd (let z : ⊥ = omega arith in z)) in
       rw least refl
+
+-- What is tried for one amount
+
+abbrev pub Lowers : Panel → ℕ → ℕ → Type 0
+Lowers p tenths behind = lowering p (cut_behind p tenths behind) ≡ true
+
+abbrev pub LowersNot : Panel → ℕ → ℕ → Type 0
+LowersNot p tenths behind = lowering p (cut_behind p tenths behind) ≡ false
+
+-- the first from the fire on that lowers the grade, or none
+pub first_found :
+    (p : Panel) (tenths : ℕ) (r : Option ℕ)
+    → MatchOption r ((k : ℕ) → 0 ≤ k → k < p.count → LowersNot p tenths k)
+    (λ i. (0 ≤ i) × (i < p.count) × Lowers p tenths i × ((k : ℕ) → 0 ≤ k → k < i → LowersNot p tenths k))
+    → MatchOption r (first_behind p tenths ≡ p.count) (λ behind. (behind ≡ first_behind p tenths) × (behind < p.count))
+unfolding first_behind
+first_found p tenths None none =
+    least_is (λ (k : ℕ). lowering p (cut_behind p tenths k)) p.count p.count (le_refl p.count) (λ k u. none k (omega arith) u)
+    (λ u. absurd (let z : ⊥ = omega arith in z))
+first_found p tenths (Some i) found =
+    let within = found.1 in
+    (sym (least_is (λ (k : ℕ). lowering p (cut_behind p tenths k)) p.count i (omega arith) (λ k u. found.3 k (omega arith) u) (λ _. found.2)), within)

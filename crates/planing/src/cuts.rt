@@ -6,7 +6,7 @@ ghost use Rattle.limits.specs.Refusals.{panel_refusal, refusal_to12};
 ghost use Rattle.grades.specs.Grades.{grade_of};
 ghost use Rattle.ratings.specs.Answers.{rei_grade};
 ghost use Rattle.planing.specs.Cuts.{cut_panel, allowed, lowered};
-ghost use Rattle.planing.specs.Answers.{place_on, lowering, most_cut};
+ghost use Rattle.planing.specs.Answers.{place_on, cut_behind, lowering, most_cut};
 
 use crate::LEAST_KEPT;
 use grades::Grade;
@@ -17,7 +17,7 @@ use panel::Panel;
 // The index of the lamella behind so many others as seen from the fire: its place less 1.
 pub(crate) fn index_behind(p: Panel, behind: usize) -> usize
     requires { (behind < p.count) × (p.count ≤ 9) }
-    ensures { (result + 1 ≡ place_on p.face p.count behind) × (result < p.count) }
+    ensures { (result + 1 ≡ place_on p.face p.count behind) × ((result < p.count) × (result < 9)) }
 {
     if p.face == 1 {
         p.count - 1 - behind
@@ -31,8 +31,7 @@ fn is_allowed(p: Panel, at: usize, tenths: u16) -> bool
     requires tenths_nonzero { (0 < tenths) × (tenths ≤ most_cut) }
     ensures { result ≡ allowed p (record { place = suc at; tenths = tenths }) }
 {
-    let thicknesses = p.thicknesses;
-    LEAST_KEPT + tenths <= thicknesses[at]
+    LEAST_KEPT + tenths <= p.thicknesses[at]
 }
 
 // The cut panel; its unused places are the panel's.
@@ -41,24 +40,9 @@ fn cut_panel(p: Panel, at: usize, tenths: u16) -> Panel
     requires tenths_bound { tenths ≤ get_or p.thicknesses at 0 }
     ensures { SameUsed result (cut_panel p (record { place = suc at; tenths = tenths })) }
 {
-    let cladding = p.cladding;
-    let directions = p.directions;
-    let mut thicknesses = p.thicknesses;
-    thicknesses[at] = thicknesses[at] - tenths;
-    Panel {
-        version: p.version,
-        face: p.face,
-        bond: p.bond,
-        rate: p.rate,
-        gap: p.gap,
-        strength: p.strength,
-        moment: p.moment,
-        failure_time: p.failure_time,
-        cladding,
-        count: p.count,
-        directions,
-        thicknesses,
-    }
+    let mut cut = p;
+    cut.thicknesses[at] -= tenths;
+    cut
 }
 
 // Whether a panel has less than a grade: it is enough that it does not pass through its minutes, or that EI is below them.
@@ -73,12 +57,13 @@ fn is_lowered(minutes: u16, q: Panel) -> bool
     (ei_minute_of(q) as u16) < minutes
 }
 
-// Whether a cut is allowed and lowers the grade.
-pub(crate) fn is_lowering(p: Panel, grade: Grade, at: usize, tenths: u16) -> bool
+// Whether so many tenths may be taken off the lamella behind so many others as seen from the fire, and lower the grade.
+pub(crate) fn is_lowering(p: Panel, grade: Grade, behind: usize, tenths: u16) -> bool
     requires p_value { (panel_refusal p ≡ 0) × (grade ≡ rei_grade p) }
-    requires at_lt_count { (at < p.count) × ((0 < tenths) × (tenths ≤ most_cut)) }
-    ensures { result ≡ lowering p (record { place = suc at; tenths = tenths }) }
+    requires behind_lt_count { (behind < p.count) × ((0 < tenths) × (tenths ≤ most_cut)) }
+    ensures { result ≡ lowering p (cut_behind p tenths behind) }
 {
+    let at = index_behind(p, behind);
     if !is_allowed(p, at, tenths) {
         return false;
     }

@@ -1,6 +1,6 @@
 // The least cut: by tenths of mm, and for each from the fire on. More taken off may raise EI again, so every amount is tried. No open calls:
 // the panel must be accepted.
-ghost use Rattle.std.specs.Prelude.{◌≡◌, ◌≤◌, ◌<◌};
+ghost use Rattle.std.specs.Prelude.{◌≡◌, ◌≤◌, ◌<◌, MatchOption};
 ghost use Rattle.limits.specs.Refusals.{panel_refusal};
 ghost use Rattle.ratings.specs.Answers.{rei_grade};
 ghost use Rattle.planing.specs.Answers.{first_behind, most_cut, planing_of};
@@ -10,34 +10,23 @@ use crate::{MOST_CUT, PlaningAnswer};
 use grades::Grade;
 use panel::Panel;
 
-// Behind how many others the nearest lamella to the fire stands off which so many tenths may be taken and lower the grade; the count where
-// there is none.
-fn first_behind(p: Panel, grade: Grade, tenths: u16) -> usize
+// Behind how many others the nearest lamella to the fire stands off which so many tenths may be taken and lower the grade.
+fn first_behind(p: Panel, grade: Grade, tenths: u16) -> Option<usize>
     requires p_value { (panel_refusal p ≡ 0) × (grade ≡ rei_grade p) }
     requires tenths_nonzero { (0 < tenths) × (tenths ≤ most_cut) }
-    ensures { result ≡ first_behind p tenths }
+    ensures { MatchOption result (first_behind p tenths ≡ p.count) (λ behind. (behind ≡ first_behind p tenths) × (behind < p.count)) }
 {
-    let mut behind = 0;
-    while behind < p.count {
-        if is_lowering(p, grade, index_behind(p, behind), tenths) {
-            return behind;
-        }
-        behind += 1;
-    }
-    p.count
+    (0..p.count).find(|&behind| is_lowering(p, grade, behind, tenths))
 }
 
 pub(crate) fn least_cut(p: Panel, grade: Grade) -> PlaningAnswer
     requires { (panel_refusal p ≡ 0) × (grade ≡ rei_grade p) }
     ensures { result ≡ planing_of p }
 {
-    let mut tenths: u16 = 1;
-    while tenths <= MOST_CUT {
-        let behind = first_behind(p, grade, tenths);
-        if behind < p.count {
+    for tenths in 1..=MOST_CUT {
+        if let Some(behind) = first_behind(p, grade, tenths) {
             return PlaningAnswer::PlaceAndTenths(index_behind(p, behind) as u8 + 1, tenths);
         }
-        tenths += 1;
     }
     PlaningAnswer::NoCut
 }

@@ -1,19 +1,16 @@
--- `layers::step::late_time` meets its contract: n keeps the test and `beyond` does not, until they are neighbours. Assumes nothing.
-use Prim.Native.Nat.{◌+◌, ◌≤◌}
-use Rattle.layers.proofs.LateTimes.{late_zero, late_beyond, late_found}
-use mathlib.Core.Path.{◌≡◌}
+-- `layers::step::late_time` meets its contract: smaller numbers keep the test too, so what is found is the largest. Assumes nothing.
+use Rattle.layers.proofs.LateTimes.{late_zero, late_down}
+use Rattle.layers.specs.Layers.{late_keeps}
+use Rattle.numbers.proofs.LargestKept.{largest_searched}
+use borrow.Author.Rules.{rules}
 use native.Mathlib.Omega.{arith}
 use Rattle.layers.proofs.step.late_time.Goals as goal
 
-pub loop-n-init : goal.loop-n-init
-loop-n-init c =
-    (omega arith, (omega arith, (late_zero c.args.s c.args.t, late_beyond c.args.s c.args.t c.requires.1.1)))
-
 pub returns : goal.returns
 returns c =
-    let e : c.loop-n.beyond ≡ c.loop-n.n + 1 = omega arith in
-    let l : c.loop-n.n ≤ c.args.t = omega arith in (
-      late_found c.args.s c.args.t c.loop-n.n c.requires.1.1
-          c.loop-n.invariant.1.1.0 (rw e at c.loop-n.invariant.1.1.1) l,
-      l,
+    let s = c.args.s in
+    let t = c.args.t in
+    let found = c.last_keeping.ensures in (
+      largest_searched (late_keeps s t) (late_down s t) (late_zero s t) t c.last_keeping.result (omega arith) (λ h. let k = found.kept h in search rules) (λ h. let k = found.next (omega arith) in search rules),
+      omega arith,
     )

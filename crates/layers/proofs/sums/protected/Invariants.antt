@@ -1,5 +1,5 @@
 -- `layers::sums::protected` meets its contract: after i turns the sum is that of the first i lamellae. Assumes nothing.
-use Prim.Native.Nat.{ℕ, ◌+◌, ◌-◌, ◌*◌, ◌≤◌}
+use Prim.Native.Nat.{ℕ, ◌+◌, ◌*◌, ◌≤◌}
 use Rattle.basic_times.specs.Rules.{longest_time}
 use Rattle.layers.specs.Layers.{lamella_layer, protected_after}
 use Rattle.panel.specs.Lamellae.{lamellae_of}
@@ -7,9 +7,8 @@ use mathlib.Core.List.{List, map}
 use mathlib.Core.Path.{◌≡◌}
 use Rattle.layers.proofs.sums.protected.Given as goal
 
-abbrev pub invariant-loop-i : goal.invariant-loop-i
-invariant-loop-i l = (l.i ≤ l.n) × ((l.sum ≤ 2 * longest_time + longest_time * l.i) × ((gs : List ℕ) → l.sum ≡ protected_after l.s
-    (map lamella_layer (lamellae_of gs l.thicknesses l.i))))
-
-abbrev pub decreases-loop-i : goal.decreases-loop-i
-decreases-loop-i l = l.n - l.i
+abbrev pub invariant-loop-thickness : goal.invariant-loop-thickness
+invariant-loop-thickness l = record {
+  bounded : l.sum ≤ 2 * longest_time + longest_time * l.thickness-index;
+  so_far : (gs : List ℕ) → l.sum ≡ protected_after l.fn.s (map lamella_layer (lamellae_of gs l.fn.thicknesses l.thickness-index));
+}

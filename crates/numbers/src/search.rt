@@ -1,0 +1,24 @@
+// A search for the last number that keeps a test.
+ghost use Rattle.std.specs.Prelude.{◌+◌, ◌<◌, ℕ, true, false};
+
+// By halving, below `beyond`: a number that keeps the test, or 0 untested, and the next does not, or is `beyond`. Of a test that smaller
+// numbers keep too it is the last. No open call: the test must take every number below `beyond`, which is not 0.
+pub fn last_keeping<F: Fn(u64) -> bool>(beyond: u64, keeps: F) -> u64
+    requires beyond_nonzero { 0 < beyond }
+    requires callable { (n : ℕ) → n < beyond → F.pre keeps n }
+    ensures below { result < beyond }
+    ensures kept { 0 < result → F.post keeps result true }
+    ensures next { result + 1 < beyond → F.post keeps (result + 1) false }
+{
+    let mut last = 0;
+    let mut failing = beyond;
+    while last + 1 < failing {
+        let middle = last + (failing - last) / 2;
+        if keeps(middle) {
+            last = middle;
+        } else {
+            failing = middle;
+        }
+    }
+    last
+}
