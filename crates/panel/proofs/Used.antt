@@ -6,7 +6,7 @@ use mathlib.Core.Logic.{⊎_elim}
 use native.Mathlib.Nat.{eq-or-lt_of_le}
 use native.Mathlib.Omega.{arith}
 use Rattle.std.proofs.lemmas.List.{get_or-take, get_or-drop}
-use lib.ListN.{length, get_or, take, drop, length-drop, length-map, get_or-append, get_or-map, replicate}
+use lib.ListN.{length, get_or, take, drop, take-append-drop, length-drop, length-map, get_or-append, get_or-map, replicate}
 use lib.Seq.{drop-cons, take-suc}
 use Rattle.numbers.proofs.FirstValues.{length_firsts, firsts_agree, firsts_get_or, get_or_firsts}
 use Rattle.panel.specs.declared.Panel.{Panel}
@@ -164,3 +164,15 @@ thickness_split gs ts n (suc i) h =
     let rest : thickness (drop i (lamellae_of gs ts n)) ≡ get_or ts i 0 + thickness (drop (suc i) (lamellae_of gs ts n)) =
     ap thickness (rest_of gs ts n i h) in
     omega (arith, thickness_more gs ts i, thickness_split gs ts n i (omega arith))
+
+-- where the first lamellae of a run end, with one more
+pub thickness_next : (ls : List Lamella) (i : ℕ) → i < length ls
+    → thickness (take (suc i) ls) ≡ thickness (take i ls) + (get_or ls i (lamella 0 0)).thickness
+unfolding thickness
+thickness_next ls i h =
+    let l = get_or ls i (lamella 0 0) in
+    omega (arith, ap thickness (take-suc ls i (lamella 0 0) h), thickness_append (take i ls) (l ∷ []))
+
+-- a run of lamellae is as thick as its first ones and those that follow
+pub thickness_parts : (ls : List Lamella) (i : ℕ) → thickness (take i ls) + thickness (drop i ls) ≡ thickness ls
+thickness_parts ls i = sym (thickness_append (take i ls) (drop i ls)) ∙ ap thickness (take-append-drop i ls)

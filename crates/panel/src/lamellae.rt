@@ -17,7 +17,7 @@ impl<'a> Lamellae<'a> {
     ghost use Rattle.panel.specs.Lent.{lamellae_in};
 
     // Those from a place on.
-    pub fn from(self, place: usize) -> Lamellae<'a>
+    pub fn starting_at(self, place: usize) -> Lamellae<'a>
         requires { place ≤ length self.directions.now }
         ensures { lamellae_in result ≡ drop place (lamellae_in self.entry) }
     {

@@ -1,4 +1,4 @@
--- `panel::lamellae::Lamellae::from` meets its contract: the rest of each slice, lent, is the rest of the lamellae. Assumes nothing.
+-- `panel::lamellae::Lamellae::starting_at` meets its contract: the rest of each slice, lent, is the rest of the lamellae. Assumes nothing.
 use Prim.Native.Nat.{ℕ}
 use mathlib.Core.List.{List}
 use mathlib.Core.Path.{ap₂, ◌∙◌}
@@ -7,7 +7,7 @@ use lib.ListN.{length, length-drop}
 use Rattle.panel.proofs.Used.{lamellae_dropped}
 use Rattle.panel.specs.Lamellae.{lamellae_of}
 use Rattle.std.proofs.lemmas.Slice.{between_to_end}
-use Rattle.panel.proofs.lamellae.Lamellae.from.Goals as goal
+use Rattle.panel.proofs.lamellae.Lamellae.starting_at.Goals as goal
 
 pub returns : goal.returns
 returns c =
