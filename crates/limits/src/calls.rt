@@ -8,9 +8,8 @@ use crate::table::table_refusal;
 use crate::{BuildAnswer, ByteFaults, SectionAnswer};
 use panel::Panel;
 use panel::faces::shown;
-use panel::timber::factor_of;
 use section::sums::section_at;
-use section::test::section_passes;
+use section::test::DesignValues;
 
 // Lines 2, 16 and 3 to 13 of a panel: the number of the first that fits, or 0.
 pub fn panel_refusal(p: Panel) -> u8
@@ -34,10 +33,7 @@ pub fn section(p: Panel, depth: u32) -> SectionAnswer
     }
     let exposed = shown(p);
     let s = section_at(exposed, depth);
-    SectionAnswer::At(
-        s,
-        section_passes(factor_of(exposed.bond), exposed.moment, exposed.strength, s),
-    )
+    SectionAnswer::At(s, DesignValues::of(&exposed).section_passes(s))
 }
 
 fn same_if(same: bool) -> BuildAnswer

@@ -154,17 +154,6 @@ thickness_prefix gs ts i (suc n) h =
     (λ (below : i < suc n). omega (arith, thickness_more gs ts n, thickness_prefix gs ts i n (omega arith)))
     (eq-or-lt_of_le h)
 
--- a run of lamellae is as thick as its first ones and those that follow
-pub thickness_split :
-    (gs ts : List ℕ) (n i : ℕ) → i ≤ n
-    → thickness (lamellae_of gs ts i) + thickness (drop i (lamellae_of gs ts n)) ≡ thickness (lamellae_of gs ts n)
-unfolding lamellae_of thickness
-thickness_split gs ts n zero h = omega arith
-thickness_split gs ts n (suc i) h =
-    let rest : thickness (drop i (lamellae_of gs ts n)) ≡ get_or ts i 0 + thickness (drop (suc i) (lamellae_of gs ts n)) =
-    ap thickness (rest_of gs ts n i h) in
-    omega (arith, thickness_more gs ts i, thickness_split gs ts n i (omega arith))
-
 -- where the first lamellae of a run end, with one more
 pub thickness_next : (ls : List Lamella) (i : ℕ) → i < length ls
     → thickness (take (suc i) ls) ≡ thickness (take i ls) + (get_or ls i (lamella 0 0)).thickness

@@ -12,7 +12,6 @@ use Rattle.panel.specs.Lamellae.{lamellae}
 use Rattle.panel.specs.declared.Panel.{Panel}
 use Rattle.section.proofs.Chains.{counted_bounds}
 use Rattle.section.proofs.NothingCut.{nothing_cut}
-use Rattle.section.specs.declared.Section.{Section}
 use Rattle.section.specs.Tests.{carries, section_at, depth_passes, SectionFits}
 use mathlib.Core.Path.{◌≡◌, sym, ap, ap₂, ◌∙◌}
 use Rattle.limits.proofs.calls.section.Goals as goal
@@ -32,14 +31,16 @@ pub section_at-s-requires : goal.section_at-s-requires
 section_at-s-requires c =
     fits_shown c.args.p c.shown-exposed.result c.panel_refusal-n.ensures c.if-n-ne0.false c.shown-exposed.ensures
 
+pub of-requires : goal.of-requires
+of-requires c =
+    let f = fits_shown c.args.p c.shown-exposed.result c.panel_refusal-n.ensures c.if-n-ne0.false c.shown-exposed.ensures in
+    (f.moment, f.strength)
+
 pub section_passes-requires : goal.section_passes-requires
 section_passes-requires c =
     let fire = c.shown-exposed in
     let a = c.args in
     let f = fits_shown a.p fire.result c.panel_refusal-n.ensures c.if-n-ne0.false fire.ensures in record {
-      factor_bound = c.factor_of.ensures.1;
-      moment_bound = f.moment;
-      strength_bound = f.strength;
       section_bounds = (
         rw c.section_at-s.ensures (counted_bounds a.depth (lamellae fire.result) f.thickness),
         rw c.section_at-s.ensures (nothing_cut a.depth (lamellae fire.result)),
@@ -51,9 +52,9 @@ unfolding section_answer
 returns c =
     let fire = c.shown-exposed in
     let a = c.args in
-    let q = fire.result in
+    let values = c.of.ensures in
     let_through Refused c.panel_refusal-n.ensures c.if-n-ne0.false
     (ap₂ At c.section_at-s.ensures
     (c.section_passes.ensures
-    ∙ ap₂ (λ (factor : ℕ) (x : Section). carries factor q.moment q.strength x) c.factor_of.ensures.0 c.section_at-s.ensures)
+    ∙ λ i. carries (values.factor i) (values.moment i) (values.strength i) (c.section_at-s.ensures i))
     ∙ ap (λ (x : Panel). At (section_at x a.depth) (depth_passes x a.depth)) fire.ensures)
