@@ -7,10 +7,9 @@ use crate::builds::is_same_build;
 use crate::check::Accepted;
 use crate::refusal::Refusal;
 use panel::Panel;
-use panel::timber::factor_of;
 use section::Section;
 use section::sums::section_at;
-use section::test::section_passes;
+use section::test::DesignValues;
 
 // Lines 2, 16 and 3 to 13 of a panel: the first that fits.
 pub fn panel_check(p: Panel) -> Result<(), Refusal>
@@ -26,8 +25,7 @@ pub fn section(p: Panel, depth: u32) -> Result<(Section, bool), Refusal>
 {
     let exposed = Accepted::of(p)?.shown().panel();
     let s = section_at(exposed, depth);
-    let passes = section_passes(factor_of(exposed.bond), exposed.moment, exposed.strength, s);
-    Ok((s, passes))
+    Ok((s, DesignValues::of(&exposed).section_passes(s)))
 }
 
 // Whether two panels are the same build.

@@ -1,11 +1,12 @@
 // The causes of lines 2 to 13 and 16, each a test of a panel or of a part of it.
-ghost use Rattle.std.specs.Prelude.{◌≡◌, List, ℕ, ◌≤◌};
-ghost use Rattle.panel.specs.Lamellae.{lamella, lamellae_of, along, thickness};
+ghost use Rattle.std.specs.Prelude.{◌≡◌, ◌≤◌, length, sum};
+ghost use Rattle.panel.specs.Lamellae.{lamella, along, thickness};
+ghost use Rattle.panel.specs.Lent.{lamellae_in};
 ghost use Rattle.section.specs.Tests.{SectionFits};
 ghost use Rattle.limits.specs.Causes.{bad_version, bad_face, bad_bond_or_gap, bad_rate, bad_load, bad_types, bad_board, bad_boards, bad_failure_time, bad_count, bad_lamella, bad_lamellae, none_along, bad_section, some};
 
-use numbers::words32::is_outside;
 use panel::boards::{charring_start, is_f, is_known, is_wood_based, material_of, type_f};
+use panel::lamellae::Lamellae;
 use panel::materials::bad_thickness;
 use panel::{Board, Cladding, Material, Panel, WHOLE_JOINT};
 use section::test::depth_passes;
@@ -13,13 +14,13 @@ use section::test::depth_passes;
 pub(crate) fn bad_version(p: Panel) -> bool
     ensures { result ≡ bad_version p }
 {
-    (p.version < 1) | (2 < p.version)
+    !(1..=2).contains(&p.version)
 }
 
 pub(crate) fn bad_face(p: Panel) -> bool
     ensures { result ≡ bad_face p }
 {
-    (2 < p.face) | ((p.version == 1) & !(p.face == 0))
+    (2 < p.face) | ((p.version == 1) & (p.face != 0))
 }
 
 pub(crate) fn bad_bond_or_gap(p: Panel) -> bool
@@ -31,24 +32,21 @@ pub(crate) fn bad_bond_or_gap(p: Panel) -> bool
 pub(crate) fn bad_rate(p: Panel) -> bool
     ensures { result ≡ bad_rate p }
 {
-    (p.rate < 50) | (100 < p.rate)
+    !(50..=100).contains(&p.rate)
 }
 
 pub(crate) fn bad_load(p: Panel) -> bool
     ensures { result ≡ bad_load p }
 {
-    (p.strength < 1) | (400 < p.strength) | (1000000 < p.moment)
+    !(1..=400).contains(&p.strength) | (1000000 < p.moment)
 }
 
 fn bad_pair(outer: Board, inner: Board) -> bool
     ensures { result ≡ bad_types (Cladding.Two outer inner) }
 {
-    let f = is_f(outer);
-    let g = is_f(inner);
     !is_known(outer)
         | !is_known(inner)
-        | (f & !g)
-        | (!f & g)
+        | (is_f(outer) != is_f(inner))
         | is_wood_based(outer)
         | is_wood_based(inner)
 }
@@ -66,7 +64,7 @@ pub(crate) fn bad_types(c: Cladding) -> bool
 fn bad_board(b: Board) -> bool
     ensures { result ≡ bad_board b }
 {
-    bad_thickness(material_of(b.kind), b.thickness) | ((b.joint < 1) | (WHOLE_JOINT < b.joint))
+    bad_thickness(material_of(b.kind), b.thickness) | !(1..=WHOLE_JOINT).contains(&b.joint)
 }
 
 pub(crate) fn bad_boards(c: Cladding) -> bool
@@ -83,15 +81,17 @@ pub(crate) fn bad_failure_time(p: Panel) -> bool
     ensures { result ≡ bad_failure_time p }
 {
     let c = p.cladding;
-    let f = type_f(c);
-    let given = p.failure_time;
-    (f & is_outside(charring_start(p.gap, c), 360000, given)) | (!f & !(given == 0))
+    if type_f(c) {
+        !(charring_start(p.gap, c)..=360000).contains(&p.failure_time)
+    } else {
+        p.failure_time != 0
+    }
 }
 
 pub(crate) fn bad_count(count: usize) -> bool
     ensures { result ≡ bad_count count }
 {
-    (count < 1) | (9 < count)
+    !(1..=9).contains(&count)
 }
 
 fn bad_lamella(direction: u8, thickness: u16) -> bool
@@ -100,46 +100,31 @@ fn bad_lamella(direction: u8, thickness: u16) -> bool
     (1 < direction) | bad_thickness(Material::Wood, thickness)
 }
 
-// No open call: the count must be at most 9.
-fn some_bad_lamella(directions: [u8; 9], thicknesses: [u16; 9], count: usize) -> bool
-    requires { count ≤ 9 }
-    ensures { result ≡ some bad_lamella (lamellae_of directions thicknesses count) }
+fn some_bad_lamella(lamellae: Lamellae<'_>) -> bool
+    ensures { result ≡ some bad_lamella (lamellae_in lamellae.entry) }
 {
-    let mut bad = false;
-    let mut i = 0;
-    while i < count {
-        bad = bad | bad_lamella(directions[i], thicknesses[i]);
-        i += 1;
-    }
-    bad
+    lamellae.directions.iter().zip(lamellae.thicknesses).any(|(direction, thickness)| bad_lamella(
+        *direction, *thickness,
+    ))
 }
 
-// The thickness of the first lamellae, whatever their directions. No open call: the count must be at most 9.
-pub fn total_thickness(thicknesses: [u16; 9], count: usize) -> u32
-    requires { count ≤ 9 }
-    ensures { (gs : List ℕ) → result ≡ thickness (lamellae_of gs thicknesses count) }
+fn sum_of(thicknesses: &[u16]) -> u32
+    requires { length thicknesses.now ≤ 9 }
+    ensures { result ≡ sum thicknesses.now }
 {
-    let mut sum: u32 = 0;
-    let mut i = 0;
-    while i < count {
-        sum += thicknesses[i] as u32;
-        i += 1;
-    }
-    sum
+    thicknesses.iter().map(|t| u32::from(*t)).sum()
 }
 
-// Whether one of the first lamellae is along, whatever their thicknesses. No open call: the count must be at most 9.
-fn some_along(directions: [u8; 9], count: usize) -> bool
-    requires { count ≤ 9 }
-    ensures { (ts : List ℕ) → result ≡ some along (lamellae_of directions ts count) }
+pub fn total_thickness(lamellae: Lamellae<'_>) -> u32
+    ensures { result ≡ thickness (lamellae_in lamellae.entry) }
 {
-    let mut found = false;
-    let mut i = 0;
-    while i < count {
-        found = found | (directions[i] == 1);
-        i += 1;
-    }
-    found
+    sum_of(lamellae.thicknesses)
+}
+
+fn some_along(lamellae: Lamellae<'_>) -> bool
+    ensures { result ≡ some along (lamellae_in lamellae.entry) }
+{
+    lamellae.directions.contains(&1)
 }
 
 // No open call: the count must be at most 9.
@@ -147,9 +132,8 @@ pub(crate) fn bad_lamellae(p: Panel) -> bool
     requires { p.count ≤ 9 }
     ensures { result ≡ bad_lamellae p }
 {
-    let g = p.directions;
-    let t = p.thicknesses;
-    some_bad_lamella(g, t, p.count) | (4000 < total_thickness(t, p.count))
+    let lamellae = p.lamellae();
+    some_bad_lamella(lamellae) | (4000 < total_thickness(lamellae))
 }
 
 // No open call: the count must be at most 9.
@@ -157,8 +141,7 @@ pub(crate) fn none_along(p: Panel) -> bool
     requires { p.count ≤ 9 }
     ensures { result ≡ none_along p }
 {
-    let g = p.directions;
-    !some_along(g, p.count)
+    !some_along(p.lamellae())
 }
 
 // No open call: the section test must fit its numbers.

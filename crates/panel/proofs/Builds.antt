@@ -7,6 +7,7 @@ use mathlib.Core.List.{List, [], ◌∷◌}
 use mathlib.Core.Bool.{true}
 use borrow.Author.Tests.{eqb-true, eq-eqb}
 use lib.ListN.{length}
+use Rattle.std.specs.Bool.{Decides}
 use Rattle.numbers.proofs.Booleans.{and_left, and_right}
 use Rattle.panel.specs.declared.Board.{Board}
 use Rattle.panel.specs.declared.Cladding.{Cladding}
@@ -77,6 +78,9 @@ unfolding same_lamellae
 lamellae_themselves [] = refl
 lamellae_themselves (x ∷ xs) =
     rw (eq-eqb x.direction x.direction refl, eq-eqb x.thickness x.thickness refl) (lamellae_themselves xs)
+
+pub same_decides : (xs ys : List Lamella) → Decides (same_lamellae xs ys) (xs ≡ ys)
+same_decides xs ys = (lamellae_equal xs ys, λ e. ap (λ (zs : List Lamella). same_lamellae zs ys) e ∙ lamellae_themselves ys)
 
 -- the boards tell the cladding
 abbrev cladding_of : List Board → Cladding

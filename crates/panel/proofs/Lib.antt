@@ -1,4 +1,5 @@
 pub mod Used
+pub mod Lent
 pub mod Arrays
 pub mod Turning
 pub mod Thicknesses

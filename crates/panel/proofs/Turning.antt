@@ -1,15 +1,13 @@
 -- Laws of turning, for every panel: what it keeps, that turned twice a panel is itself, and that unused places do not matter.
 use Prim.Native.Nat.{ℕ, zero, suc, ◌-◌, ◌<◌, ◌≤◌, min}
 use mathlib.Core.Path.{◌≡◌, refl, sym, ap, ap₂, subst, ◌∙◌}
-use mathlib.Core.List.{List, [], ◌∷◌, reverse, reverse-cons, reverse-reverse}
+use mathlib.Core.List.{List, [], ◌∷◌, ◌++◌, map, map-append, reverse, reverse-cons, reverse-reverse}
 use mathlib.Core.Bool.{Bool, true, ◌&&◌}
 use native.Mathlib.Omega.{arith}
-use lib.ListN.{get_or, length-reverse}
-use Rattle.numbers.specs.Firsts.{firsts}
+use lib.ListN.{length, take, replicate, length-map, length-reverse}
 use Rattle.numbers.proofs.Booleans.{and_left}
-use Rattle.numbers.proofs.FirstValues.{reverse_firsts}
 use Rattle.panel.specs.declared.Panel.{Panel}
-use Rattle.panel.specs.Lamellae.{Lamella, lamella, lamellae_of, lamellae, with_lamellae, cleared, SameUsed, thickness}
+use Rattle.panel.specs.Lamellae.{Lamella, lamellae, with_lamellae, nine, cleared, SameUsed, thickness}
 use Rattle.panel.specs.Builds.{SameBuild}
 use Rattle.panel.specs.Faces.{turned, fires_on, fires, shown_on, shown, InEvery, in_every, least_of}
 use Rattle.panel.proofs.Used.{length_lamellae_of, lamellae_with, lamellae_cleared, thickness_append, unused}
@@ -33,12 +31,21 @@ thickness_reverse (l ∷ ls) =
     ap thickness (reverse-cons l ls)
     ∙ omega (arith, thickness_append (reverse ls) (l ∷ []), thickness_reverse ls)
 
--- the lamellae of two arrays, from the last used place down
-pub reverse_lamellae_of :
-    (gs ts : List ℕ) (n : ℕ)
-    → reverse (lamellae_of gs ts n) ≡ firsts (λ (i : ℕ). lamella (get_or gs (n - suc i) 0) (get_or ts (n - suc i) 0)) n
-unfolding lamellae_of
-reverse_lamellae_of gs ts n = reverse_firsts (λ (i : ℕ). lamella (get_or gs i 0) (get_or ts i 0)) n
+-- an array of nine that holds a number of each lamella, and then those of the turned panel
+pub turned_places :
+    (f : Lamella → ℕ) (ls : List Lamella) (xs : List ℕ) (n : ℕ) → map f ls ≡ take n xs → length ls ≡ n
+    → reverse (take n xs) ++ replicate (9 - n) 0 ≡ nine (map f (reverse ls))
+turned_places f ls xs n e long =
+    ap₂ (λ (ys : List ℕ) (k : ℕ). ys ++ replicate (9 - k) 0) (ap reverse (sym e) ∙ sym (map_reverse f ls))
+    (sym (length-map (reverse ls) f ∙ length-reverse ls ∙ long))
+  where
+    map_reverse : (f : Lamella → ℕ) (ls : List Lamella) → map f (reverse ls) ≡ reverse (map f ls)
+    map_reverse f [] = refl
+    map_reverse f (l ∷ ls) =
+        ap (map f) (reverse-cons l ls)
+        ∙ map-append f (reverse ls) (l ∷ [])
+        ∙ ap (λ (xs : List ℕ). xs ++ (f l ∷ [])) (map_reverse f ls)
+        ∙ sym (reverse-cons (f l) (map f ls))
 
 -- The fire that is shown, and the least and a test over all fires
 

@@ -1,12 +1,13 @@
 -- A panel's lamellae come from the used places of its arrays, and a panel may be given others.
 use Prim.Native.Nat.{ℕ, zero, suc, ◌+◌, ◌-◌, ◌<◌, ◌≤◌}
 use mathlib.Core.Path.{◌≡◌, refl, sym, ap, ap₂, ◌∙◌}
-use mathlib.Core.List.{List, [], ◌∷◌, ◌++◌, map}
+use mathlib.Core.List.{List, [], ◌∷◌, ◌++◌, map, map-append}
 use mathlib.Core.Logic.{⊎_elim}
 use native.Mathlib.Nat.{eq-or-lt_of_le}
 use native.Mathlib.Omega.{arith}
-use lib.ListN.{length, get_or, drop, length-map, get_or-append, get_or-map, replicate}
-use lib.Seq.{drop-cons}
+use Rattle.std.proofs.lemmas.List.{get_or-take, get_or-drop}
+use lib.ListN.{length, get_or, take, drop, take-append-drop, length-drop, length-map, get_or-append, get_or-map, replicate}
+use lib.Seq.{drop-cons, take-suc}
 use Rattle.numbers.proofs.FirstValues.{length_firsts, firsts_agree, firsts_get_or, get_or_firsts}
 use Rattle.panel.specs.declared.Panel.{Panel}
 use Rattle.panel.specs.Lamellae.{
@@ -41,6 +42,47 @@ pub rest_of :
 rest_of gs ts n i h =
     drop-cons (lamellae_of gs ts n) i (lamella 0 0) (omega (arith, length_lamellae_of gs ts n))
     ∙ ap (λ (l : Lamella). l ∷ drop (suc i) (lamellae_of gs ts n)) (get_or_lamellae_of gs ts n i h)
+
+-- the first places of two arrays, lent, are the first lamellae
+pub lamellae_taken : (gs ts : List ℕ) (n m : ℕ) → m ≡ n → lamellae_of (take n gs) (take n ts) m ≡ lamellae_of gs ts n
+unfolding lamellae_of
+lamellae_taken gs ts n m e =
+    ap (lamellae_of (take n gs) (take n ts)) e
+    ∙ firsts_agree (λ (i : ℕ). lamella (get_or (take n gs) i 0) (get_or (take n ts) i 0)) (λ (i : ℕ). lamella (get_or gs i 0) (get_or ts i 0)) n
+    (λ i h. ap₂ lamella (get_or-take n gs i 0 h) (get_or-take n ts i 0 h))
+
+-- those from a place on are the lamellae from there on
+pub lamellae_dropped :
+    (gs ts : List ℕ) (k n m : ℕ) → m ≡ n - k → lamellae_of (drop k gs) (drop k ts) m ≡ drop k (lamellae_of gs ts n)
+unfolding lamellae_of
+lamellae_dropped gs ts k n m e =
+    let ls = lamellae_of gs ts n in
+    let long : m ≡ length (drop k ls) = omega (arith, length-drop k ls, length_lamellae_of gs ts n) in
+    ap (lamellae_of (drop k gs) (drop k ts)) long
+    ∙ firsts_get_or (λ (i : ℕ). lamella (get_or (drop k gs) i 0) (get_or (drop k ts) i 0)) (drop k ls) (lamella 0 0)
+    (λ i h.
+    let there : k + i < n = omega (arith, length-drop k ls, length_lamellae_of gs ts n) in
+    ap₂ lamella (get_or-drop k gs i 0) (get_or-drop k ts i 0)
+    ∙ sym (get_or-drop k ls i (lamella 0 0) ∙ get_or_lamellae_of gs ts n (k + i) there))
+
+-- the numbers of the first lamellae are those at the first places
+pub directions_lamellae_of :
+    (gs ts : List ℕ) (n : ℕ) → n ≤ length gs → map (λ (l : Lamella). l.direction) (lamellae_of gs ts n) ≡ take n gs
+unfolding lamellae_of
+directions_lamellae_of gs ts zero h = refl
+directions_lamellae_of gs ts (suc n) h =
+    map-append (λ (l : Lamella). l.direction) (lamellae_of gs ts n) (lamella (get_or gs n 0) (get_or ts n 0) ∷ [])
+    ∙ ap (λ (xs : List ℕ). xs ++ (get_or gs n 0 ∷ [])) (directions_lamellae_of gs ts n (omega arith))
+    ∙ sym (take-suc gs n 0 h)
+
+pub thicknesses_lamellae_of :
+    (gs ts : List ℕ) (n : ℕ) → n ≤ length ts → map (λ (l : Lamella). l.thickness) (lamellae_of gs ts n) ≡ take n ts
+unfolding lamellae_of
+thicknesses_lamellae_of gs ts zero h = refl
+thicknesses_lamellae_of gs ts (suc n) h =
+    map-append (λ (l : Lamella). l.thickness) (lamellae_of gs ts n) (lamella (get_or gs n 0) (get_or ts n 0) ∷ [])
+    ∙ ap (λ (xs : List ℕ). xs ++ (get_or ts n 0 ∷ [])) (thicknesses_lamellae_of gs ts n (omega arith))
+    ∙ sym (take-suc ts n 0 h)
 
 -- an array of nine that was filled from lamellae holds their numbers
 get_or_nine :
@@ -112,13 +154,14 @@ thickness_prefix gs ts i (suc n) h =
     (λ (below : i < suc n). omega (arith, thickness_more gs ts n, thickness_prefix gs ts i n (omega arith)))
     (eq-or-lt_of_le h)
 
+-- where the first lamellae of a run end, with one more
+pub thickness_next : (ls : List Lamella) (i : ℕ) → i < length ls
+    → thickness (take (suc i) ls) ≡ thickness (take i ls) + (get_or ls i (lamella 0 0)).thickness
+unfolding thickness
+thickness_next ls i h =
+    let l = get_or ls i (lamella 0 0) in
+    omega (arith, ap thickness (take-suc ls i (lamella 0 0) h), thickness_append (take i ls) (l ∷ []))
+
 -- a run of lamellae is as thick as its first ones and those that follow
-pub thickness_split :
-    (gs ts : List ℕ) (n i : ℕ) → i ≤ n
-    → thickness (lamellae_of gs ts i) + thickness (drop i (lamellae_of gs ts n)) ≡ thickness (lamellae_of gs ts n)
-unfolding lamellae_of thickness
-thickness_split gs ts n zero h = omega arith
-thickness_split gs ts n (suc i) h =
-    let rest : thickness (drop i (lamellae_of gs ts n)) ≡ get_or ts i 0 + thickness (drop (suc i) (lamellae_of gs ts n)) =
-    ap thickness (rest_of gs ts n i h) in
-    omega (arith, thickness_more gs ts i, thickness_split gs ts n i (omega arith))
+pub thickness_parts : (ls : List Lamella) (i : ℕ) → thickness (take i ls) + thickness (drop i ls) ≡ thickness ls
+thickness_parts ls i = sym (thickness_append (take i ls) (drop i ls)) ∙ ap thickness (take-append-drop i ls)

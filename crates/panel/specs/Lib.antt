@@ -1,4 +1,5 @@
 pub mod Lamellae
+pub mod Lent
 pub mod Materials
 pub mod Boards
 pub mod Timber

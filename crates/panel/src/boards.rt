@@ -4,31 +4,29 @@ ghost use Rattle.numbers.specs.Choice.{pick};
 ghost use Rattle.panel.specs.Boards.{known, wood_based, material_of, is_f, type_f, gap_loss, inner_gain, char_through, charring_start};
 
 use crate::{Board, Cladding, Material};
-use numbers::words32::{less, pick};
 
 pub fn is_wood_based(b: Board) -> bool
     ensures { result ≡ wood_based b }
 {
-    (b.kind == b'O') | (b.kind == b'P')
+    matches!(b.kind, b'O' | b'P')
 }
 
 pub fn is_known(b: Board) -> bool
     ensures { result ≡ known b }
 {
-    (b.kind == b'A') | (b.kind == b'F') | (b.kind == b'H') | is_wood_based(b)
+    matches!(b.kind, b'A' | b'F' | b'H') || is_wood_based(b)
 }
 
 // What boards of a type are made of.
+#[tactic(auto, unfolding(crate::specs::Boards::material_of))]
 pub fn material_of(kind: u8) -> Material
     ensures { result ≡ material_of kind }
 {
-    if kind == b'O' {
-        return Material::Osb;
+    match kind {
+        b'O' => Material::Osb,
+        b'P' => Material::ParticleBoard,
+        _ => Material::Gypsum,
     }
-    if kind == b'P' {
-        return Material::ParticleBoard;
-    }
-    Material::Gypsum
 }
 
 pub fn is_f(b: Board) -> bool
@@ -42,27 +40,26 @@ pub fn type_f(c: Cladding) -> bool
 {
     match c {
         Cladding::Unclad => false,
-        Cladding::One(b) => is_f(b),
-        Cladding::Two(outer, _) => is_f(outer),
+        Cladding::One(outer) | Cladding::Two(outer, _) => is_f(outer),
     }
 }
 
 fn gap_loss(gap: u8) -> u32
     ensures { result ≡ gap_loss gap }
 {
-    pick(gap == 1, 23000, 14000)
+    if gap == 1 { 23000 } else { 14000 }
 }
 
 fn outer_gain(b: Board) -> u32
     ensures { (result ≡ 280 * b.thickness) × (result < 18350080) }
 {
-    280 * (b.thickness as u32)
+    280 * u32::from(b.thickness)
 }
 
 fn inner_gain(b: Board) -> u32
     ensures { (result ≡ inner_gain b * b.thickness) × (result < 18350080) }
 {
-    let h = b.thickness as u32;
+    let h = u32::from(b.thickness);
     if is_f(b) { 224 * h } else { 140 * h }
 }
 
@@ -70,13 +67,17 @@ fn inner_gain(b: Board) -> u32
 fn char_through(b: Board) -> u32
     ensures { result ≡ char_through b }
 {
-    1000 * (b.thickness as u32) / 9
+    1000 * u32::from(b.thickness) / 9
 }
 
 fn start_behind(b: Board, loss: u32) -> u32
     ensures { result ≡ pick (wood_based b) (char_through b) (280 * b.thickness - loss) }
 {
-    pick(is_wood_based(b), char_through(b), less(outer_gain(b), loss))
+    if is_wood_based(b) {
+        char_through(b)
+    } else {
+        outer_gain(b).saturating_sub(loss)
+    }
 }
 
 // t_ch in thousandths of a minute.
@@ -87,6 +88,8 @@ pub fn charring_start(gap: u8, c: Cladding) -> u32
     match c {
         Cladding::Unclad => 0,
         Cladding::One(b) => start_behind(b, loss),
-        Cladding::Two(outer, inner) => less(outer_gain(outer) + inner_gain(inner), loss),
+        Cladding::Two(outer, inner) => {
+            (outer_gain(outer) + inner_gain(inner)).saturating_sub(loss)
+        }
     }
 }

@@ -4,6 +4,7 @@
 
 pub mod boards;
 pub mod faces;
+pub mod lamellae;
 pub mod materials;
 pub mod timber;
 
@@ -11,7 +12,7 @@ pub mod timber;
 pub const WHOLE_JOINT: u8 = 100;
 
 // What a layer is made of: boards of gypsum, OSB or particle board, and lamellae of solid wood.
-#[derive(Clone, Copy)]
+#[derive(Clone, Copy, PartialEq, Eq)]
 pub enum Material {
     Gypsum,
     Wood,
@@ -20,7 +21,7 @@ pub enum Material {
 }
 
 // One board. The type is its ASCII letter, the thickness in tenths of mm, the joint coefficient in hundredths.
-#[derive(Clone, Copy)]
+#[derive(Clone, Copy, PartialEq, Eq)]
 pub struct Board {
     pub kind: u8,
     pub thickness: u16,
@@ -28,7 +29,7 @@ pub struct Board {
 }
 
 // The boards over the panel, the outer one first.
-#[derive(Clone, Copy)]
+#[derive(Clone, Copy, PartialEq, Eq)]
 pub enum Cladding {
     Unclad,
     One(Board),
@@ -38,7 +39,8 @@ pub enum Cladding {
 // The version is that of its record. The face is 0 for a fire on the first face, 1 on the last, 2 on each alone. The rate is in
 // hundredths of mm/min, the strength in tenths of N/mm², the moment in N·m per metre of width, the failure time in thousandths of a
 // minute. Lamella i, from the first face, has its direction (0 across, 1 along) and its thickness (tenths of mm) at place i of the
-// arrays. Places from `count` on are unused.
+// arrays. Places from `count` on are unused. The numbers are raw, since calls refuse those out of their limits, and the arrays are held by
+// value with their count, since there is no heap.
 #[derive(Clone, Copy)]
 pub struct Panel {
     pub version: u8,

@@ -10,8 +10,7 @@ pub fn thinnest(m: Material) -> u16
     match m {
         Material::Gypsum => 90,
         Material::Wood => 100,
-        Material::Osb => 200,
-        Material::ParticleBoard => 200,
+        Material::Osb | Material::ParticleBoard => 200,
     }
 }
 
@@ -21,8 +20,7 @@ pub fn thickest(m: Material) -> u16
     match m {
         Material::Gypsum => 250,
         Material::Wood => 600,
-        Material::Osb => 400,
-        Material::ParticleBoard => 400,
+        Material::Osb | Material::ParticleBoard => 400,
     }
 }
 
@@ -30,5 +28,5 @@ pub fn thickest(m: Material) -> u16
 pub fn bad_thickness(m: Material, h: u16) -> bool
     ensures { result ≡ bad_thickness m h }
 {
-    (h < thinnest(m)) | (thickest(m) < h)
+    !(thinnest(m)..=thickest(m)).contains(&h)
 }

@@ -15,5 +15,5 @@ pub fn factor_of(bond: u8) -> u64
 pub fn rate_of(p: Panel) -> u64
     ensures { (result ≡ rate_of p) × (result < 256) }
 {
-    p.rate as u64
+    u64::from(p.rate)
 }

@@ -1,55 +1,49 @@
--- The search for the next lamella along in two arrays: what is sought stays the same from lamella to lamella. Assumes nothing.
-use Prim.Native.Nat.{ℕ, ◌+◌, ◌≤◌, ◌<◌}
+-- The search for the next lamella along: what is sought stays the same from lamella to lamella. Assumes nothing.
+use Prim.Native.Nat.{ℕ, ◌+◌, suc, ◌≤◌, ◌<◌}
 use mathlib.Core.Path.{◌≡◌, sym, ap, ◌∙◌}
-use mathlib.Core.List.{List, []}
+use mathlib.Core.List.{List, ◌∷◌}
 use native.Mathlib.Numerals.{add-one}
 use native.Mathlib.Omega.{arith}
-use lib.ListN.{get_or, drop}
-use lib.Seq.{drop-length}
+use lib.ListN.{length, get_or, drop}
+use lib.Seq.{drop-cons}
+use Rattle.std.proofs.lemmas.List.{drop_all}
 use borrow.Author.Tests.{eq-eqb, ne_eqb}
-use Rattle.panel.specs.Lamellae.{lamellae_of, thickness}
-use Rattle.panel.proofs.Used.{length_lamellae_of, rest_of}
+use Rattle.panel.specs.Lamellae.{Lamella, lamella, thickness}
 use Rattle.section.specs.Carried.{first_along}
 
-module _ (gs ts : List ℕ) (count : ℕ) where
-  -- those of the lamellae from `place` on, the first at `top`, that come before i, which is at `at`, are not along
-  pub record Sought (place top i at : ℕ) : Type 0 where
-    pub up : i ≤ count
-    pub within : at + thickness (drop i (lamellae_of gs ts count)) ≤ 4000
-    pub same : first_along top (drop place (lamellae_of gs ts count)) ≡ first_along at (drop i (lamellae_of gs ts count))
+module _ (ls : List Lamella) (top : ℕ) where
+  -- of lamellae the first of which begins at top, those that come before i, which is at `at`, are not along
+  pub record Sought (i at : ℕ) : Type 0 where
+    pub within : at + thickness (drop i ls) ≤ 4000
+    pub same : first_along top ls ≡ first_along at (drop i ls)
 
-  pub sought_more : (place top i at : ℕ) → Sought place top i at → i < count → (get_or gs i 0 ≡ 1 → ⊥)
-      → Sought place top (i + 1) (at + get_or ts i 0)
+  rest_of : (i : ℕ) (l : Lamella) → i < length ls → get_or ls i (lamella 0 0) ≡ l → drop i ls ≡ l ∷ drop (i + 1) ls
+  rest_of i l h here =
+      rw (add-one i) (drop-cons ls i (lamella 0 0) h ∙ ap (λ (x : Lamella). x ∷ drop (suc i) ls) here)
+
+  pub sought_more : (i at : ℕ) (l : Lamella) → Sought i at → i < length ls → get_or ls i (lamella 0 0) ≡ l → (l.direction ≡ 1 → ⊥)
+      → Sought (i + 1) (at + l.thickness)
   unfolding first_along thickness
-  sought_more place top i at s h across =
-      let rest = rest_of gs ts count i h in
+  sought_more i at l s h here across =
+      let rest = rest_of i l h here in
       let less = ap thickness rest in
-      rw (add-one i)
       record {
-        up = h;
         within = omega (arith, s.within);
-        same = s.same ∙ ap (first_along at) rest ∙ rw (ne_eqb (get_or gs i 0) 1 across);
+        same = s.same ∙ ap (first_along at) rest ∙ rw (ne_eqb l.direction 1 across);
       }
 
   -- its thickness fits
-  pub sought_fits : (place top i at : ℕ) → Sought place top i at → i < count → at + get_or ts i 0 ≤ 4000
+  pub sought_fits : (i at : ℕ) (l : Lamella) → Sought i at → i < length ls → get_or ls i (lamella 0 0) ≡ l → at + l.thickness ≤ 4000
   unfolding thickness
-  sought_fits place top i at s h =
-      let less = ap thickness (rest_of gs ts count i h) in
+  sought_fits i at l s h here =
+      let less = ap thickness (rest_of i l h here) in
       omega (arith, s.within)
 
-  pub sought_found : (place top i at : ℕ) → Sought place top i at → i < count → get_or gs i 0 ≡ 1
-      → at ≡ first_along top (drop place (lamellae_of gs ts count))
+  pub sought_found : (i at : ℕ) (l : Lamella) → Sought i at → i < length ls → get_or ls i (lamella 0 0) ≡ l → l.direction ≡ 1
+      → at ≡ first_along top ls
   unfolding first_along
-  sought_found place top i at s h along =
-      sym (s.same ∙ ap (first_along at) (rest_of gs ts count i h) ∙ rw (eq-eqb (get_or gs i 0) 1 along))
+  sought_found i at l s h here along = sym (s.same ∙ ap (first_along at) (rest_of i l h here) ∙ rw (eq-eqb l.direction 1 along))
 
-  pub sought_none : (place top i at : ℕ) → Sought place top i at → count ≤ i → 0 ≡ first_along top (drop place (lamellae_of gs ts count))
+  pub sought_none : (i at : ℕ) → Sought i at → length ls ≤ i → 0 ≡ first_along top ls
   unfolding first_along
-  sought_none place top i at s all =
-      let up = s.up in
-      let e : i ≡ count = omega arith in
-      let d : drop i (lamellae_of gs ts count) ≡ drop count (lamellae_of gs ts count) = ap (λ (k : ℕ). drop k (lamellae_of gs ts count)) e in
-      let l : drop count (lamellae_of gs ts count) ≡ [] =
-      ap (λ (k : ℕ). drop k (lamellae_of gs ts count)) (sym (length_lamellae_of gs ts count)) ∙ drop-length (lamellae_of gs ts count) in
-      sym (s.same ∙ ap (first_along at) (d ∙ l))
+  sought_none i at s all = sym (s.same ∙ ap (first_along at) (drop_all i ls all))

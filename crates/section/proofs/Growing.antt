@@ -5,12 +5,13 @@ use mathlib.Core.Bool.{Bool, true, false}
 use mathlib.Core.List.{List, [], ◌∷◌, ◌++◌, append-nil}
 use native.Mathlib.Numerals.{add-one}
 use native.Mathlib.Omega.{arith}
-use lib.ListN.{get_or}
+use lib.ListN.{length, get_or, take}
+use lib.Seq.{take-suc, take_all}
 use lib.Dec.{eqb}
 use borrow.Author.Tests.{ne_eqb}
 use Rattle.numbers.specs.Choice.{pick}
-use Rattle.panel.specs.Lamellae.{Lamella, lamella, lamellae_of, thickness}
-use Rattle.panel.proofs.Used.{thickness_more, thickness_prefix}
+use Rattle.panel.specs.Lamellae.{Lamella, lamella, thickness}
+use Rattle.panel.proofs.Used.{thickness_next, thickness_parts}
 use Rattle.section.specs.declared.Section.{Section}
 use Rattle.section.specs.Sections.{Part, rest, counts, keep_if, counted_from, counted, total, lowest, highest, section_of}
 use Rattle.section.specs.Growing.{with_part, with_lamella, pick_section}
@@ -89,30 +90,37 @@ pub lamella_misses : (depth top : ℕ) (l : Lamella) (s : Section) → counts de
 unfolding with_lamella
 lamella_misses depth top l s e = rw e
 
--- the loop over two arrays: the sums of the first i lamellae, and where they end
-pub record Summed (gs ts : List ℕ) (depth i : ℕ) (s : Section) (top : ℕ) : Type 0 where
-  pub ends : top ≡ thickness (lamellae_of gs ts i)
-  pub sums : s ≡ section_of (counted depth (lamellae_of gs ts i))
+-- the loop over lamellae: the sums of the first i, and where they end
+pub record Summed (ls : List Lamella) (depth i : ℕ) (s : Section) (top : ℕ) : Type 0 where
+  pub ends : top ≡ thickness (take i ls)
+  pub sums : s ≡ section_of (counted depth (take i ls))
 
-pub summed_start : (gs ts : List ℕ) (depth : ℕ) → Summed gs ts depth 0 (record { n = 0; p = 0; q = 0; lo = 0; hi = 0 }) 0
-unfolding lamellae_of thickness section_of counted_from total lowest highest
-summed_start gs ts depth = record { ends = refl; sums = refl }
+pub summed_start : (ls : List Lamella) (depth : ℕ) → Summed ls depth 0 (record { n = 0; p = 0; q = 0; lo = 0; hi = 0 }) 0
+unfolding thickness section_of counted_from total lowest highest
+summed_start ls depth = record { ends = refl; sums = refl }
 
-pub summed_more : (gs ts : List ℕ) (depth i : ℕ) (s r : Section) (top next : ℕ) → Summed gs ts depth i s top
-    → r ≡ with_lamella depth top (lamella (get_or gs i 0) (get_or ts i 0)) s → next ≡ top + get_or ts i 0 → Summed gs ts depth (i + 1) r next
-unfolding lamellae_of
-summed_more gs ts depth i s r top next now e d =
+pub summed_more : (ls : List Lamella) (depth i : ℕ) (s r : Section) (top next : ℕ) (l : Lamella) → Summed ls depth i s top → i < length ls
+    → get_or ls i (lamella 0 0) ≡ l → r ≡ with_lamella depth top l s → next ≡ top + l.thickness → Summed ls depth (i + 1) r next
+summed_more ls depth i s r top next l now h here e d =
+    let more = take-suc ls i (lamella 0 0) h ∙ ap (λ (x : Lamella). take i ls ++ (x ∷ [])) here in
     rw (add-one i)
     record {
-      ends = omega (arith, thickness_more gs ts i);
+      ends = omega (arith, now.ends, thickness_next ls i h, ap (λ (x : Lamella). x.thickness) here);
       sums =
-          e ∙ rw (now.sums, now.ends) (sym (section_more depth (lamellae_of gs ts i) (lamella (get_or gs i 0) (get_or ts i 0))));
+          e
+          ∙ rw (now.sums, now.ends) (sym (section_more depth (take i ls) l))
+          ∙ ap (λ (ms : List Lamella). section_of (counted depth ms)) (sym more);
     }
 
 -- within a panel of at most 400.0 mm the sums keep their bounds and the next lamella ends in time
-pub summed_fits : (gs ts : List ℕ) (depth i count : ℕ) (s : Section) (top : ℕ) → Summed gs ts depth i s top → i < count
-    → thickness (lamellae_of gs ts count) ≤ 4000 → SectionBounds s × (top + get_or ts i 0 ≤ 4000)
-summed_fits gs ts depth i count s top now h fits =
-    let next : thickness (lamellae_of gs ts (suc i)) ≤ 4000 = omega (arith, thickness_prefix gs ts (suc i) count (omega arith)) in
-    let more = thickness_more gs ts i in
-    (rw now.sums (counted_bounds depth (lamellae_of gs ts i) (omega arith)), omega arith)
+pub summed_fits : (ls : List Lamella) (depth i : ℕ) (s : Section) (top : ℕ) (l : Lamella) → Summed ls depth i s top → i < length ls
+    → get_or ls i (lamella 0 0) ≡ l → thickness ls ≤ 4000 → SectionBounds s × (top + l.thickness ≤ 4000)
+summed_fits ls depth i s top l now h here fits = (
+  rw now.sums (counted_bounds depth (take i ls) (omega (arith, thickness_parts ls i))),
+  omega (arith, now.ends, thickness_next ls i h, thickness_parts ls (suc i), ap (λ (x : Lamella). x.thickness) here),
+)
+
+-- past the last they are those of all
+pub summed_all : (ls : List Lamella) (depth i : ℕ) (s : Section) (top : ℕ) → Summed ls depth i s top → length ls ≤ i
+    → s ≡ section_of (counted depth ls)
+summed_all ls depth i s top now h = now.sums ∙ ap (λ (ms : List Lamella). section_of (counted depth ms)) (take_all i ls h)

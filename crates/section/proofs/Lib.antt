@@ -11,10 +11,9 @@ pub mod MirrorSums
 pub mod Mirroring
 -- What is carried from depth to depth is the section.
 pub mod Carrying
--- What the functions need: sums lamella by lamella, and arrays lent.
+-- What the functions need: sums lamella by lamella, and what is carried along them.
 pub mod Growing
 pub mod FirstAlong
-pub mod CarriedArrays
-pub mod Lent
+pub mod CarriedAlong
 -- Worked panels keep the limits.
 pub mod Worked

@@ -6,8 +6,7 @@ use Rattle.panel.specs.Lamellae.{lamellae_of, lamellae, thickness}
 use Rattle.panel.specs.Worked.{g, recovers}
 use Rattle.section.specs.Tests.{section_at, SectionFits}
 use Rattle.section.specs.Carrying.{LamellaeFit, CarriedAt}
-use Rattle.section.proofs.CarriedArrays.{carried_start}
-use Rattle.section.proofs.Lent.{own_arrays}
+use Rattle.section.proofs.CarriedAlong.{carried_start}
 
 -- both panels keep the limits
 pub g_fits : SectionFits (g 3000)
@@ -18,14 +17,13 @@ pub recovers_fits : SectionFits recovers
 unfolding lamellae_of thickness
 recovers_fits = record { strength = omega arith; moment = omega arith; count = omega arith; thickness = omega arith }
 
--- the arrays of G are as they must be to be lent, and what is carried begins at depth 0, short of its thickness
-pub g_arrays : LamellaeFit (g 3000).directions (g 3000).thicknesses (g 3000).count
+-- the lamellae of G are as they must be to be lent, and what is carried begins at depth 0, short of their thickness
+pub g_lamellae_fit : LamellaeFit (lamellae (g 3000))
 unfolding lamellae_of
-g_arrays = own_arrays (g 3000) g_fits (omega arith, (omega arith, (omega arith, tt))) refl refl
+g_lamellae_fit = record { thickness = g_fits.thickness; each = (omega arith, (omega arith, (omega arith, tt))) }
 
 pub g_carried :
-    CarriedAt (g 3000).directions (g 3000).thicknesses (g 3000).count
-    (record { section = section_at (g 3000) 0; depth = 0; place = 0; end = 0; next = 0 })
+    CarriedAt (lamellae (g 3000)) (record { section = section_at (g 3000) 0; depth = 0; place = 0; end = 0; next = 0 })
     × (0 < thickness (lamellae (g 3000)))
 unfolding lamellae_of thickness
-g_carried = (carried_start (g 3000).directions (g 3000).thicknesses (g 3000).count (section_at (g 3000) 0) refl, omega arith)
+g_carried = (carried_start (lamellae (g 3000)) (section_at (g 3000) 0) refl, omega arith)

@@ -1,12 +1,13 @@
 // The section carried from one depth to the next, a tenth of mm deeper (document 02, 4/14).
-ghost use Rattle.std.specs.Prelude.{◌≡◌, ◌+◌, ◌-◌, ◌*◌, ◌≤◌, ◌<◌, length, drop};
-ghost use Rattle.panel.specs.Lamellae.{lamellae_of, thickness};
+ghost use Rattle.std.specs.Prelude.{◌≡◌, ◌+◌, ◌-◌, ◌*◌, ◌≤◌, ◌<◌};
+ghost use Rattle.panel.specs.Lamellae.{thickness};
+ghost use Rattle.panel.specs.Lent.{lamellae_in};
 ghost use Rattle.section.specs.Carried.{without, step, first_along};
 ghost use Rattle.section.specs.Carrying.{LamellaeFit, StepFits, CarriedAt};
 
 use crate::sums::{cubes, is_enough, section_in, squares, where_none};
 use crate::{Carried, Section};
-use numbers::words64::widen;
+use panel::lamellae::Lamellae;
 
 // The sums without what lies from a to b, with which the first part begins; the counted parts begin at lo then.
 fn take_off(s: Section, a: u64, b: u64, lo: u64) -> Section
@@ -16,10 +17,10 @@ fn take_off(s: Section, a: u64, b: u64, lo: u64) -> Section
 {
     let n = s.n - (b - a);
     Section {
-        n: n,
+        n,
         p: s.p - squares(a, b),
         q: s.q - cubes(a, b),
-        lo: lo,
+        lo,
         hi: where_none(n, 0, s.hi),
     }
 }
@@ -32,7 +33,7 @@ fn take_tenth(s: Section, a: u64) -> Section
 {
     let n = s.n - 1;
     Section {
-        n: n,
+        n,
         p: s.p - (2 * a + 1),
         q: s.q - (3 * a * (a + 1) + 1),
         lo: a + 1,
@@ -55,78 +56,71 @@ fn step_of(s: Section, end: u64, next: u64) -> Section
     }
 }
 
-// Where the first lamella along begins, of those from `place` on, which begin at `top`; 0 where none is along.
-fn first_along(directions: &[u8], thicknesses: &[u16], count: usize, place: usize, top: u64) -> u64
-    requires place_le_count { (place ≤ count) × ((count ≤ length directions.now) × (count ≤ length thicknesses.now)) }
-    requires count_bound { top + thickness (drop place (lamellae_of directions.now thicknesses.now count)) ≤ 4000 }
-    ensures { result ≡ first_along top (drop place (lamellae_of directions.now thicknesses.now count)) }
+// Where the first lamella along begins, of lamellae the first of which begins at `top`; 0 where none is along.
+fn first_along(lamellae: Lamellae<'_>, top: u64) -> u64
+    requires { top + thickness (lamellae_in lamellae) ≤ 4000 }
+    ensures { result ≡ first_along top (lamellae_in lamellae.entry) }
 {
     let mut at = top;
-    let mut i = place;
-    while i < count {
-        if directions[i] == 1 {
+    for (direction, thick) in lamellae.directions.iter().zip(lamellae.thicknesses) {
+        if *direction == 1 {
             return at;
         }
-        at += widen(thicknesses[i]);
-        i += 1;
+        at += u64::from(*thick);
     }
     0
 }
 
 // Past the end of a lamella the next one is cut.
-fn begin_next(c: Carried, directions: &[u8], thicknesses: &[u16], count: usize) -> Carried
-    requires lamellae_fit { LamellaeFit directions.now thicknesses.now count × CarriedAt directions.now thicknesses.now count c }
-    requires end_le_depth { (c.end ≤ c.depth) × (c.depth < thickness (lamellae_of directions.now thicknesses.now count)) }
-    ensures { CarriedAt directions.now thicknesses.now count result × ((result.depth ≡ c.depth) × (result.depth < result.end)) }
+fn begin_next(c: Carried, lamellae: Lamellae<'_>) -> Carried
+    requires lamellae_fit { LamellaeFit (lamellae_in lamellae) × CarriedAt (lamellae_in lamellae) c }
+    requires end_le_depth { (c.end ≤ c.depth) × (c.depth < thickness (lamellae_in lamellae)) }
+    ensures { CarriedAt (lamellae_in lamellae.entry) result × ((result.depth ≡ c.depth) × (result.depth < result.end)) }
 {
-    let section = c.section;
-    let place = c.place;
-    let end = c.end + widen(thicknesses[place]);
+    let place = c.place + 1;
+    let thick = u64::from(lamellae.thicknesses[c.place]);
+    let end = c.end + thick;
     Carried {
-        section: section,
-        depth: c.depth,
-        place: place + 1,
-        end: end,
-        next: first_along(directions, thicknesses, count, place + 1, end),
+        place,
+        end,
+        next: first_along(lamellae.starting_at(place), end),
+        ..c
     }
 }
 
 // With the lamella that is cut from here on.
-fn cut_here(c: Carried, directions: &[u8], thicknesses: &[u16], count: usize) -> Carried
-    requires lamellae_fit { LamellaeFit directions.now thicknesses.now count × CarriedAt directions.now thicknesses.now count c }
-    requires depth_bound { c.depth < thickness (lamellae_of directions.now thicknesses.now count) }
-    ensures { CarriedAt directions.now thicknesses.now count result × ((result.depth ≡ c.depth) × (result.depth < result.end)) }
+fn cut_here(c: Carried, lamellae: Lamellae<'_>) -> Carried
+    requires lamellae_fit { LamellaeFit (lamellae_in lamellae) × CarriedAt (lamellae_in lamellae) c }
+    requires depth_bound { c.depth < thickness (lamellae_in lamellae) }
+    ensures { CarriedAt (lamellae_in lamellae.entry) result × ((result.depth ≡ c.depth) × (result.depth < result.end)) }
 {
     if c.depth < c.end {
         return c;
     }
-    begin_next(c, directions, thicknesses, count)
+    begin_next(c, lamellae)
 }
 
 // One tenth of mm deeper. No open call: what is handed in must be carried to a depth short of the panel's thickness.
-pub fn deeper(c: Carried, directions: &[u8], thicknesses: &[u16], count: usize) -> Carried
-    requires lamellae_fit { LamellaeFit directions.now thicknesses.now count × CarriedAt directions.now thicknesses.now count c }
-    requires depth_bound { c.depth < thickness (lamellae_of directions.now thicknesses.now count) }
-    ensures { CarriedAt directions.now thicknesses.now count result × (result.depth ≡ c.depth + 1) }
+pub fn deeper(c: Carried, lamellae: Lamellae<'_>) -> Carried
+    requires lamellae_fit { LamellaeFit (lamellae_in lamellae) × CarriedAt (lamellae_in lamellae) c }
+    requires depth_bound { c.depth < thickness (lamellae_in lamellae) }
+    ensures { CarriedAt (lamellae_in lamellae.entry) result × (result.depth ≡ c.depth + 1) }
 {
-    let cut = cut_here(c, directions, thicknesses, count);
-    let section = cut.section;
+    let cut = cut_here(c, lamellae);
     Carried {
-        section: step_of(section, cut.end, cut.next),
+        section: step_of(cut.section, cut.end, cut.next),
         depth: cut.depth + 1,
-        place: cut.place,
-        end: cut.end,
-        next: cut.next,
+        ..cut
     }
 }
 
 // At depth 0, where no lamella is cut yet. No open call: the lamellae must keep the limits of line 11.
-pub fn carried_at_start(directions: &[u8], thicknesses: &[u16], count: usize) -> Carried
-    requires { LamellaeFit directions.now thicknesses.now count }
-    ensures { CarriedAt directions.now thicknesses.now count result × (result.depth ≡ 0) }
+pub fn carried_at_start(lamellae: Lamellae<'_>) -> Carried
+    requires { LamellaeFit (lamellae_in lamellae) }
+    ensures { CarriedAt (lamellae_in lamellae.entry) result × (result.depth ≡ 0) }
 {
     Carried {
-        section: section_in(directions, thicknesses, count, 0),
+        section: section_in(lamellae, 0),
         depth: 0,
         place: 0,
         end: 0,

@@ -1,14 +1,15 @@
 // The sums over the counted parts, lamella by lamella from the exposed face.
-ghost use Rattle.std.specs.Prelude.{◌≡◌, ◌+◌, ◌-◌, ◌*◌, ◌≤◌, ◌<◌, eqb, leb, length};
+ghost use Rattle.std.specs.Prelude.{◌≡◌, ◌+◌, ◌-◌, ◌*◌, ◌≤◌, ◌<◌, eqb, leb};
 ghost use Rattle.numbers.specs.Choice.{pick};
-ghost use Rattle.panel.specs.Lamellae.{lamella, lamellae_of, thickness};
+ghost use Rattle.panel.specs.Lamellae.{lamella, thickness};
+ghost use Rattle.panel.specs.Lent.{lamellae_in};
 ghost use Rattle.section.specs.Sections.{least_remainder, counted, section_of};
 ghost use Rattle.section.specs.Growing.{with_part, with_lamella};
 ghost use Rattle.section.specs.Tests.{section_at, SectionFits, SectionBounds};
 
 use crate::Section;
-use numbers::words64::{greater, widen};
 use panel::Panel;
+use panel::lamellae::Lamellae;
 
 // b² − a².
 pub(crate) fn squares(a: u64, b: u64) -> u64
@@ -62,8 +63,8 @@ fn with_along(s: Section, depth: u64, top: u64, thick: u16) -> Section
     requires depth_bound { (depth < 4294967296) × (top + thick ≤ 4000) }
     ensures { result ≡ with_lamella depth top (lamella 1 thick) s }
 {
-    let from = greater(depth, top);
-    let to = top + widen(thick);
+    let from = depth.max(top);
+    let to = top + u64::from(thick);
     if is_enough(from, to) {
         with_part(s, from, to)
     } else {
@@ -84,12 +85,10 @@ fn with_lamella(s: Section, depth: u64, top: u64, direction: u8, thick: u16) -> 
     }
 }
 
-// The sums over the first `count` lamellae of two lent arrays, so that a scan of depths copies none. No open call: the arrays must
-// hold as many, of at most 400.0 mm.
-pub fn section_in(directions: &[u8], thicknesses: &[u16], count: usize, depth: u32) -> Section
-    requires count_in_bounds { (count ≤ length directions.now) × (count ≤ length thicknesses.now) }
-    requires count_bound { thickness (lamellae_of directions.now thicknesses.now count) ≤ 4000 }
-    ensures { result ≡ section_of (counted depth (lamellae_of directions.now thicknesses.now count)) }
+// The sums over lent lamellae, so that a scan of depths copies none. No open call: they must be of at most 400.0 mm.
+pub fn section_in(lamellae: Lamellae<'_>, depth: u32) -> Section
+    requires { thickness (lamellae_in lamellae) ≤ 4000 }
+    ensures { result ≡ section_of (counted depth (lamellae_in lamellae.entry)) }
 {
     let mut s = Section {
         n: 0,
@@ -99,12 +98,9 @@ pub fn section_in(directions: &[u8], thicknesses: &[u16], count: usize, depth: u
         hi: 0,
     };
     let mut top: u64 = 0;
-    let mut i = 0;
-    while i < count {
-        let thick = thicknesses[i];
-        s = with_lamella(s, depth as u64, top, directions[i], thick);
-        top += widen(thick);
-        i += 1;
+    for (direction, thick) in lamellae.directions.iter().zip(lamellae.thicknesses) {
+        s = with_lamella(s, u64::from(depth), top, *direction, *thick);
+        top += u64::from(*thick);
     }
     s
 }
@@ -114,7 +110,5 @@ pub fn section_at(p: Panel, depth: u32) -> Section
     requires { SectionFits p }
     ensures { result ≡ section_at p depth }
 {
-    let directions = p.directions;
-    let thicknesses = p.thicknesses;
-    section_in(&directions, &thicknesses, p.count, depth)
+    section_in(p.lamellae(), depth)
 }

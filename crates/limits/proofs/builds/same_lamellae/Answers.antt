@@ -1,32 +1,29 @@
--- `limits::builds::same_lamellae` meets its contract: after i turns the flag says whether the first i lamellae agree.
-use Rattle.limits.proofs.Tests.{same_lamellae_more}
-use Rattle.panel.proofs.Used.{length_lamellae_of}
+-- `limits::builds::same_lamellae` meets its contract: lamellae are equal where their directions are, and their thicknesses.
+-- Assumes nothing.
+use Prim.Native.Nat.{ℕ}
+use mathlib.Core.Path.{◌≡◌, sym, ap, ap₂, ◌∙◌}
+use mathlib.Core.List.{List, map}
+use lib.ListN.{length}
+use Rattle.std.proofs.lemmas.Bool.Decides.{same_from_decides, Decides-and, Decides-eqb, Decides-like}
+use Rattle.std.proofs.lemmas.Slice.Eq.{slice_eq-Decides}
+use Rattle.panel.proofs.Builds.{same_decides}
+use Rattle.panel.proofs.Lent.{directions_in, thicknesses_in}
 use Rattle.panel.specs.Builds.{same_lamellae}
-use Rattle.panel.specs.Lamellae.{lamella, lamellae_of}
-use lib.ListN.{length, get_or}
-use mathlib.Core.Bool.{Bool, ◌&&◌}
-use mathlib.Core.Path.{refl, sym, ap₂, ◌∙◌, ◌≡◌}
-use native.Mathlib.Numerals.{add-one}
-use native.Mathlib.Omega.{arith}
+use Rattle.panel.specs.Lamellae.{Lamella, lamellae_of}
+use Rattle.panel.specs.Lent.{lamellae_in}
 use Rattle.limits.proofs.builds.same_lamellae.Goals as goal
 
-pub loop-i-init : goal.loop-i-init
-unfolding lamellae_of same_lamellae
-loop-i-init c = (omega arith, refl)
-
-pub loop-i-preserved : goal.loop-i-preserved
-unfolding lamellae_of
-loop-i-preserved c =
-    let args = c.args in
-    let gs = args.a.directions in
-    let hs = args.b.directions in
-    let ts = args.a.thicknesses in
-    let us = args.b.thicknesses in
-    let i = c.loop-i.i in
-    let e : length (lamellae_of gs ts i) ≡ length (lamellae_of hs us i) = length_lamellae_of gs ts i ∙ sym (length_lamellae_of hs us i) in (
-      omega arith,
-      rw (add-one)
-          (ap₂ (λ (a b : Bool). a && b) c.loop-i.invariant.1 c.same_lamella-same.ensures
-          ∙ sym (same_lamellae_more (lamellae_of gs ts i) (lamellae_of hs us i) (lamella (get_or gs i 0) (get_or ts i 0))
-          (lamella (get_or hs i 0) (get_or us i 0)) e)),
-    )
+pub returns : goal.returns
+returns c =
+    let a = c.args.a in
+    let b = c.args.b in
+    same_from_decides _ (same_lamellae (lamellae_in a) (lamellae_in b))
+    (Decides-and c.eq.result c.eq-2.result (slice_eq-Decides Decides-eqb a.directions.now b.directions.now c.eq.result c.eq.ensures)
+    (slice_eq-Decides Decides-eqb a.thicknesses.now b.thicknesses.now c.eq-2.result c.eq-2.ensures))
+    (Decides-like (same_lamellae (lamellae_in a) (lamellae_in b))
+    (λ (e : lamellae_in a ≡ lamellae_in b). (
+      sym (directions_in a) ∙ ap (map (λ (l : Lamella). l.direction)) e ∙ directions_in b,
+      sym (thicknesses_in a) ∙ ap (map (λ (l : Lamella). l.thickness)) e ∙ thicknesses_in b,
+    ))
+    (λ (e : (a.directions.now ≡ b.directions.now) × (a.thicknesses.now ≡ b.thicknesses.now)).
+    ap₂ (λ (gs ts : List ℕ). lamellae_of gs ts (length gs)) e.0 e.1) (same_decides (lamellae_in a) (lamellae_in b)))

@@ -1,5 +1,5 @@
 -- `limits::calls::section` meets its contract: the section is worked out of a panel that no line refuses. Assumes nothing.
-use Rattle.std.proofs.Common.{◌≡◌, ℕ, Bool, Ok, ap, ◌∙◌}
+use Rattle.std.proofs.Common.{◌≡◌, Bool, Ok, sym, ap, ◌∙◌}
 use Rattle.std.proofs.lemmas.Result.{err_from_is_err_and}
 use Rattle.limits.proofs.Accepted.{accepted_fits}
 use Rattle.limits.proofs.FirstLine.{accepted_with, passed_on, goes_on}
@@ -21,22 +21,23 @@ returns-in_err-of c =
     let p = err_from_is_err_and c.from_residual.result c.from_residual.ensures.1 in
     let fire = shown c.args.p in
     rw (p.1, p.2)
-    (passed_on (panel_refusal c.args.p) c.args.p (Ok (section_at fire c.args.depth, depth_passes fire c.args.depth)) c.in_err-of.ensures)
+        (passed_on (panel_refusal c.args.p) c.args.p (Ok (section_at fire c.args.depth, depth_passes fire c.args.depth)) c.in_err-of.ensures)
 
 pub section_at-s-requires : goal.section_at-s-requires
 section_at-s-requires c = accepted_fits c.panel-exposed.result c.panel-exposed.ensures.accepted
 
-pub section_passes-passes-requires-clause-moment_bound : goal.section_passes-passes-requires-clause-moment_bound
-section_passes-passes-requires-clause-moment_bound c = (accepted_fits c.panel-exposed.result c.panel-exposed.ensures.accepted).moment
+pub of-2-requires : goal.of-2-requires
+of-2-requires c =
+    let f = accepted_fits c.panel-exposed.result c.panel-exposed.ensures.accepted in
+    (f.moment, f.strength)
 
-pub section_passes-passes-requires-clause-strength_bound : goal.section_passes-passes-requires-clause-strength_bound
-section_passes-passes-requires-clause-strength_bound c = (accepted_fits c.panel-exposed.result c.panel-exposed.ensures.accepted).strength
-
-pub section_passes-passes-requires-clause-section_bounds : goal.section_passes-passes-requires-clause-section_bounds
-section_passes-passes-requires-clause-section_bounds c =
+pub section_passes-requires : goal.section_passes-requires
+section_passes-requires c =
     let fire = c.panel-exposed.result in
     let f = accepted_fits fire c.panel-exposed.ensures.accepted in
-    rw c.section_at-s.ensures (counted_bounds c.args.depth (lamellae fire) f.thickness, nothing_cut c.args.depth (lamellae fire))
+    record {
+      section_bounds = rw c.section_at-s.ensures (counted_bounds c.args.depth (lamellae fire) f.thickness, nothing_cut c.args.depth (lamellae fire));
+    }
 
 pub returns : goal.returns
 unfolding section_answer accepted_answer
@@ -44,9 +45,10 @@ returns c =
     let a = c.args in
     let q = c.panel-exposed.result in
     let is_shown : q ≡ shown a.p = c.panel-exposed.ensures.panel ∙ c.shown.ensures ∙ ap shown (accepted_with c.in_ok-of.ensures).1 in
+    let values = c.of-2.ensures in
     goes_on (panel_refusal a.p) a.p c.in_ok-of.ensures
     (ap Ok
     (ap₂ (λ (s : Section) (passes : Bool). (s, passes)) c.section_at-s.ensures
-    (c.section_passes-passes.ensures
-    ∙ ap₂ (λ (factor : ℕ) (x : Section). carries factor q.moment q.strength x) c.factor_of.ensures.0 c.section_at-s.ensures)
+    (c.section_passes.ensures
+    ∙ λ i. carries (values.factor i) (values.moment i) (values.strength i) (c.section_at-s.ensures i))
     ∙ ap (λ (x : Panel). (section_at x a.depth, depth_passes x a.depth)) is_shown))

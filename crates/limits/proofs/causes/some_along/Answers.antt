@@ -1,23 +1,13 @@
--- `limits::causes::some_along` meets its contract: after i turns the flag says whether one of the first i lamellae is along.
-use Rattle.limits.proofs.Tests.{some_more}
-use Rattle.limits.specs.Causes.{some}
-use Rattle.panel.specs.Lamellae.{lamellae_of}
+-- `limits::causes::some_along` meets its contract: a lamella is along where its direction is 1. Assumes nothing.
+use mathlib.Core.Path.{sym, ap, ◌∙◌}
 use lib.Dec.{eqb}
-use lib.ListN.{get_or}
-use mathlib.Core.Bool.{Bool, ◌||◌}
-use mathlib.Core.Path.{refl, ap}
-use native.Mathlib.Numerals.{add-one}
-use native.Mathlib.Omega.{arith}
+use Rattle.std.specs.List.{list_any}
+use Rattle.panel.proofs.Lent.{directions_in}
+use Rattle.panel.specs.Lent.{lamellae_in}
+use Rattle.limits.proofs.Tests.{along_some}
 use Rattle.limits.proofs.causes.some_along.Goals as goal
 
-pub loop-i-init : goal.loop-i-init
-unfolding lamellae_of some
-loop-i-init c = (omega arith, λ ts. refl)
-
-pub loop-i-preserved : goal.loop-i-preserved
-unfolding lamellae_of
-loop-i-preserved c = (
-  omega arith,
-  λ ts. rw (add-one, some_more)
-      (ap (λ (t : Bool). t || eqb (get_or c.args.directions c.loop-i.i 0) 1) (c.loop-i.invariant.1 ts)),
-)
+pub returns : goal.returns
+returns c =
+    let l = c.args.lamellae in
+    c.contains.ensures.value ∙ sym (along_some (lamellae_in l) ∙ ap (list_any (λ g. eqb g 1)) (directions_in l))

@@ -1,11 +1,9 @@
--- `section::sums::section_in` meets its contract. The loop's invariant: s and top are the sums of the first i lamellae and where
--- these end. The measure is the lamellae left. Assumes nothing.
-use Prim.Native.Nat.{◌≤◌, ◌-◌}
+-- `section::sums::section_in` meets its contract. The loop's invariant: s and top are the sums of the lamellae so far and where these end.
+-- Assumes nothing.
+use lib.ListN.{length}
+use Rattle.panel.specs.Lent.{lamellae_in}
 use Rattle.section.proofs.Growing.{Summed}
 use Rattle.section.proofs.sums.section_in.Given as goal
 
-abbrev pub invariant-loop-i : goal.invariant-loop-i
-invariant-loop-i l = (l.i ≤ l.count) × Summed l.directions l.thicknesses l.depth l.i l.s l.top
-
-abbrev pub decreases-loop-i : goal.decreases-loop-i
-decreases-loop-i l = l.count - l.i
+abbrev pub invariant-loop-direction : goal.invariant-loop-direction
+invariant-loop-direction l = Summed (lamellae_in l.lamellae) l.depth (length l.yielded) l.s l.top

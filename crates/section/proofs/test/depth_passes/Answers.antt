@@ -7,12 +7,9 @@ use Rattle.section.proofs.test.depth_passes.Goals as goal
 pub section_passes-requires : goal.section_passes-requires
 section_passes-requires c =
     let a = c.args in
-    let fits = c.requires in record {
-      factor_bound = c.factor_of.ensures.1;
-      moment_bound = fits.moment;
-      strength_bound = fits.strength;
+    record {
       section_bounds = (
-        rw c.section_at.ensures (counted_bounds a.depth (lamellae a.p) fits.thickness),
+        rw c.section_at.ensures (counted_bounds a.depth (lamellae a.p) c.requires.thickness),
         rw c.section_at.ensures (nothing_cut a.depth (lamellae a.p)),
       );
     }

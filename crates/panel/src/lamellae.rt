@@ -1,0 +1,45 @@
+// The lamellae of a panel, lent.
+ghost use Rattle.std.specs.Prelude.{◌≡◌, ◌≤◌, length};
+
+use crate::Panel;
+
+// Lamella i, from the first face, has its direction and its thickness at place i of two slices of the same length.
+#[derive(Clone, Copy)]
+pub struct Lamellae<'a> {
+    pub directions: &'a [u8],
+    pub thicknesses: &'a [u16],
+    pub ghost aligned: { length directions.now ≡ length thicknesses.now },
+    pub ghost at_most_nine: { length directions.now ≤ 9 },
+}
+
+impl<'a> Lamellae<'a> {
+    ghost use Rattle.std.specs.Prelude.{drop};
+    ghost use Rattle.panel.specs.Lent.{lamellae_in};
+
+    // Those from a place on.
+    pub fn starting_at(self, place: usize) -> Lamellae<'a>
+        requires { place ≤ length self.directions.now }
+        ensures { lamellae_in result ≡ drop place (lamellae_in self.entry) }
+    {
+        Lamellae {
+            directions: &self.directions[place..],
+            thicknesses: &self.thicknesses[place..],
+        }
+    }
+}
+
+impl Panel {
+    ghost use Rattle.panel.specs.Lamellae.{lamellae};
+    ghost use Rattle.panel.specs.Lent.{lamellae_in};
+
+    // No open call: the count must be at most 9.
+    pub fn lamellae(&self) -> Lamellae<'_>
+        requires { self.now.count ≤ 9 }
+        ensures { lamellae_in result ≡ lamellae self.now }
+    {
+        Lamellae {
+            directions: &self.directions[..self.count],
+            thicknesses: &self.thicknesses[..self.count],
+        }
+    }
+}
