@@ -22,7 +22,8 @@ use Rattle.record.specs.Layouts.{
   encode,
 }
 use Rattle.record.specs.Refusals.{record_refusal}
-use Rattle.record.specs.Answers.{decode, reading}
+use Rattle.record.specs.Answers.{decode}
+use Rattle.std.specs.Prelude.{Ok}
 use Rattle.record.specs.Worked.{g_bytes}
 
 -- Lengths and places

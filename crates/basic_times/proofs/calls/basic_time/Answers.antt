@@ -1,5 +1,4 @@
 -- `basic_times::calls::basic_time` meets its contract: the test decides between the refusal and the table. Assumes nothing.
-use Rattle.basic_times.specs.declared.TimeAnswer.TheVariants.{Time, Refused}
 use Rattle.basic_times.specs.Answers.{time_answer}
 use mathlib.Core.Path.{sym, ap, ◌∙◌}
 use Rattle.basic_times.proofs.calls.basic_time.Goals as goal

@@ -26,8 +26,8 @@ returns-in_err-of c =
 pub section_at-s-requires : goal.section_at-s-requires
 section_at-s-requires c = accepted_fits c.panel-exposed.result c.panel-exposed.ensures.accepted
 
-pub of-2-requires : goal.of-2-requires
-of-2-requires c =
+pub of-requires-2 : goal.of-requires-2
+of-requires-2 c =
     let f = accepted_fits c.panel-exposed.result c.panel-exposed.ensures.accepted in
     (f.moment, f.strength)
 
