@@ -113,7 +113,6 @@ pub fn fire_of(p: Panel) -> Fire
     ensures { FireOf p result × FireBounds result }
 {
     let c = p.cladding;
-    let thicknesses = p.thicknesses;
     let start = start_of(p);
     let failure = failure_of(p, start);
     let rate = rate_of(p);
@@ -127,7 +126,7 @@ pub fn fire_of(p: Panel) -> Fire
         plain: 10000 * rate,
         depth: depth,
         end: passed_end(p, depth, intact),
-        back: 100000000 * (total_thickness(thicknesses, p.count) as u64),
+        back: 100000000 * (total_thickness(p.lamellae()) as u64),
         full: greater(20000, start),
     }
 }

@@ -4,6 +4,7 @@ use Rattle.charring.proofs.Numbers.{fire_bounds}
 use Rattle.charring.specs.Fires.{bond_lines, intact_end, passed_end, first_end}
 use Rattle.charring.specs.Fits.{FireOf}
 use Rattle.charring.specs.declared.Fire.{Fire}
+use Rattle.panel.specs.Lamellae.{thickness}
 use mathlib.Core.Path.{◌≡◌, ap, ap₂, ◌∙◌}
 use Rattle.charring.proofs.fires.fire_of.Goals as goal
 
@@ -33,7 +34,7 @@ returns c =
       plain = ap (λ (r : ℕ). 10000 * r) c.rate_of-rate.ensures.0;
       depth = depth;
       end = c.passed_end.ensures ∙ ap₂ (λ (d e : ℕ). passed_end d e (bond_lines p)) depth intact;
-      back = ap (λ (k : ℕ). 100000000 * k) (c.total_thickness.ensures p.directions);
+      back = ap (λ (k : ℕ). 100000000 * k) (c.total_thickness.ensures ∙ ap thickness c.lamellae.ensures);
       full = c.greater.ensures ∙ ap (λ (k : ℕ). max 20000 k) c.start_of-start.ensures;
     } in
     (o, fire_bounds p f c.requires o)
