@@ -11,7 +11,7 @@ use Rattle.panel.specs.Lamellae.{Lamella, cleared, SameUsed, thickness}
 use Rattle.panel.specs.Faces.{shown}
 use Rattle.panel.proofs.Used.{lamellae_cleared, unused}
 use Rattle.panel.proofs.Turning.{shown_same}
-use Rattle.limits.specs.Lines.{Line, refusal, answer}
+use Rattle.limits.specs.Lines.{Line, refusal, answer, unless_refused}
 use Rattle.limits.proofs.Unused.{lines_unused}
 use Rattle.charring.specs.Fires.{tenth, failure_of, intact_end, first_end, lines_from, bond_lines}
 use Rattle.charring.specs.Stages.{way}

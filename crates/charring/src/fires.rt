@@ -88,7 +88,7 @@ impl Fire {
             plain: 10000 * rate,
             depth,
             end: passed_end(Lines::of(&panel), depth, intact),
-            back: TENTH * u64::from(total_thickness(panel.thicknesses, panel.count)),
+            back: TENTH * u64::from(total_thickness(panel.lamellae())),
             full: start.max(20000),
         }
     }

@@ -8,12 +8,10 @@ ghost use Rattle.load.specs.LoadMinute.{every_from, time_test};
 ghost use Rattle.load.specs.Lasting.{lasts};
 
 use charring::{Fire, Time};
-use numbers::words64::lesser;
 use panel::Panel;
 use panel::faces::{shown, turned};
-use panel::timber::factor_of;
 use section::sums::section_in;
-use section::test::{section_passes, sections_pass};
+use section::test::DesignValues;
 
 // Every depth to `reached` passes. The next ones are tested at once: twice as many as before where they pass together, half as many where
 // they do not, and a single one by itself.
@@ -21,21 +19,20 @@ fn every_depth_passes(p: Panel, deepest: u64) -> bool
     requires { SectionFits p × (deepest ≤ 4000) }
     ensures { result ≡ every_from (depth_passes p) 0 deepest }
 {
-    let directions = p.directions;
-    let thicknesses = p.thicknesses;
-    let factor = factor_of(p.bond);
-    let mut shallow = section_in(&directions, &thicknesses, p.count, 0);
-    if !section_passes(factor, p.moment, p.strength, shallow) {
+    let lamellae = p.lamellae();
+    let design = DesignValues::of(&p);
+    let mut shallow = section_in(lamellae, 0);
+    if !design.section_passes(shallow) {
         return false;
     }
     let mut reached: u64 = 0;
     let mut ahead: u64 = deepest;
     while reached < deepest {
-        let to = lesser(reached + ahead, deepest);
-        let deep = section_in(&directions, &thicknesses, p.count, to as u32);
+        let to = (reached + ahead).min(deepest);
+        let deep = section_in(lamellae, to as u32);
         let single = to == reached + 1;
         let edge = if single { deep } else { shallow };
-        if sections_pass(factor, p.moment, p.strength, edge, deep) {
+        if design.sections_pass(edge, deep) {
             ahead = 2 * (to - reached);
             reached = to;
             shallow = deep;

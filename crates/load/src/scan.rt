@@ -13,25 +13,23 @@ use limits::LAST_MINUTE;
 use limits::causes::total_thickness;
 use numbers::search::last_keeping;
 use panel::Panel;
-use panel::timber::factor_of;
 use section::carry::{carried_at_start, deeper};
-use section::test::section_passes;
+use section::test::DesignValues;
 
-// The last depth, at most the panel's thickness, to which every depth passes. The arrays are copied once, and the section is carried. Where
-// N stays the section does, and is not tested again.
+// The last depth, at most the panel's thickness, to which every depth passes. The section is carried. Where N stays the section does, and is
+// not tested again.
 fn last_passing(p: Panel) -> u64
     requires { SectionFits p × (EachThick (lamellae p) × (depth_passes p 0 ≡ true)) }
     ensures { result ≡ last_passing p }
 {
-    let directions = p.directions;
-    let thicknesses = p.thicknesses;
-    let factor = factor_of(p.bond);
-    let bottom = total_thickness(thicknesses, p.count) as u64;
-    let mut c = carried_at_start(&directions, &thicknesses, p.count);
+    let lamellae = p.lamellae();
+    let design = DesignValues::of(&p);
+    let bottom = u64::from(total_thickness(lamellae));
+    let mut c = carried_at_start(lamellae);
     while c.depth < bottom {
-        let next = deeper(c, &directions, &thicknesses, p.count);
+        let next = deeper(c, lamellae);
         if next.section.n != c.section.n {
-            if !section_passes(factor, p.moment, p.strength, next.section) {
+            if !design.section_passes(next.section) {
                 return c.depth;
             }
         }

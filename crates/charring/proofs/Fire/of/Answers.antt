@@ -4,6 +4,7 @@ use native.Mathlib.Omega.{arith}
 use Rattle.charring.proofs.Numbers.{slow_most, depth_most, end_most}
 use Rattle.charring.specs.Fires.{slow_rate, depth_at_failure, intact_end, first_end}
 use mathlib.Core.Path.{◌≡◌, ap, ◌∙◌}
+use Rattle.panel.specs.Lamellae.{thickness}
 use Rattle.charring.proofs.Fire.of.Goals as goal
 
 pub invariant_of-result : goal.invariant_of-result
@@ -24,7 +25,7 @@ invariant_of-result c =
       plain_is = ap (λ (r : ℕ). 10000 * r) c.rate_of-rate.ensures.0;
       depth_is = depth;
       end_is = end;
-      back_is = ap (λ (k : ℕ). 100000000 * k) (c.from.ensures ∙ c.total_thickness.ensures p.directions);
+      back_is = ap (λ (k : ℕ). 100000000 * k) (c.from.ensures ∙ c.total_thickness.ensures ∙ ap thickness c.lamellae.ensures);
       full_is = omega (arith, c.start_of-start.ensures, c.max.ensures);
       slow_most = omega (arith, slow, slow_most p c.requires);
       depth_most = omega (arith, depth, depth_most p c.requires);

@@ -11,10 +11,10 @@ use Rattle.load.proofs.scan.last_passing.Given as goal
 
 -- what is carried to a depth of the panel
 abbrev pub CarriedIn : Panel → Carried → Type 0
-CarriedIn p c = CarriedAt p.directions p.thicknesses p.count c
+CarriedIn p c = CarriedAt (lamellae p) c
 
 abbrev pub invariant-loop-c : goal.invariant-loop-c
-invariant-loop-c l = CarriedIn l.p l.c × ((l.c.depth ≤ thickness (lamellae l.p)) × EveryTenthPasses (depth_passes l.p) l.c.depth)
+invariant-loop-c l = CarriedIn l.fn.p l.c × ((l.c.depth ≤ thickness (lamellae l.fn.p)) × EveryTenthPasses (depth_passes l.fn.p) l.c.depth)
 
 abbrev pub decreases-loop-c : goal.decreases-loop-c
-decreases-loop-c l = thickness (lamellae l.p) - l.c.depth
+decreases-loop-c l = thickness (lamellae l.fn.p) - l.c.depth
