@@ -13,33 +13,33 @@ use Rattle.panel.specs.declared.Panel.{Panel}
 use Rattle.panel.specs.Lamellae.{Lamella, lamella, lamellae, lamellae_of, thickness}
 use Rattle.charring.specs.Fires.{tenth, fast_run, lines_from, line_end, bond_lines}
 use Rattle.charring.specs.Fits.{FireFits}
-use Rattle.charring.specs.Lines.{lain}
+use Rattle.charring.specs.Lines.{by_thickness}
 
 -- The lines below a depth, from lamella to lamella
 
-pub none_left : (top : ℕ) (ts : List ℕ) → length ts < 2 → lines_from top (lain ts) ≡ []
+pub none_left : (top : ℕ) (ts : List ℕ) → length ts < 2 → lines_from top (by_thickness ts) ≡ []
 unfolding lines_from
 none_left top [] h = refl
 none_left top (t ∷ []) h = refl
 none_left top (t ∷ u ∷ us) h = absurd (omega arith)
 
 pub one_more : (top t next : ℕ) (all ts : List ℕ) → next ≡ top + tenth * t → all ≡ t ∷ ts → 0 < length ts
-    → lines_from top (lain all) ≡ next ∷ lines_from next (lain ts)
+    → lines_from top (by_thickness all) ≡ next ∷ lines_from next (by_thickness ts)
 unfolding lines_from
 one_more top t next all [] n e h = absurd (omega arith)
 one_more top t next all (u ∷ us) n e h = rw (n, e)
 
-pub thickness_more : (t : ℕ) (all ts : List ℕ) → all ≡ t ∷ ts → thickness (lain all) ≡ t + thickness (lain ts)
+pub thickness_more : (t : ℕ) (all ts : List ℕ) → all ≡ t ∷ ts → thickness (by_thickness all) ≡ t + thickness (by_thickness ts)
 unfolding thickness
 thickness_more t all ts e = rw e
 
 -- where a run ends
-pub end_far : (line : ℕ) (ts : List ℕ) → length ts < 2 → line + fast_run ≡ line_end line (lines_from line (lain ts))
+pub end_far : (line : ℕ) (ts : List ℕ) → length ts < 2 → line + fast_run ≡ line_end line (lines_from line (by_thickness ts))
 unfolding line_end
 end_far line ts h = rw (none_left line ts h)
 
 pub end_near : (line r : ℕ) (ts : List ℕ) → 1 < length ts → r ≡ min (line + fast_run) (line + tenth * get_or ts 0 0)
-    → r ≡ line_end line (lines_from line (lain ts))
+    → r ≡ line_end line (lines_from line (by_thickness ts))
 unfolding line_end
 end_near line r [] h e = absurd (omega arith)
 end_near line r (t ∷ ts) h e = rw (one_more line t (line + tenth * t) (t ∷ ts) ts refl refl (omega arith)) e
@@ -49,16 +49,16 @@ end_near line r (t ∷ ts) h e = rw (one_more line t (line + tenth * t) (t ∷ t
 abbrev pub thicknesses : List Lamella → List ℕ
 thicknesses ls = map (λ (l : Lamella). l.thickness) ls
 
-lines_lain : (top : ℕ) (ls : List Lamella) → lines_from top (lain (thicknesses ls)) ≡ lines_from top ls
+same_lines : (top : ℕ) (ls : List Lamella) → lines_from top (by_thickness (thicknesses ls)) ≡ lines_from top ls
 unfolding lines_from
-lines_lain top [] = refl
-lines_lain top (l ∷ []) = refl
-lines_lain top (l ∷ m ∷ ls) = ap (λ (xs : List ℕ). (top + tenth * l.thickness) ∷ xs) (lines_lain (top + tenth * l.thickness) (m ∷ ls))
+same_lines top [] = refl
+same_lines top (l ∷ []) = refl
+same_lines top (l ∷ m ∷ ls) = ap (λ (xs : List ℕ). (top + tenth * l.thickness) ∷ xs) (same_lines (top + tenth * l.thickness) (m ∷ ls))
 
-thickness_lain : (ls : List Lamella) → thickness (lain (thicknesses ls)) ≡ thickness ls
+same_thickness : (ls : List Lamella) → thickness (by_thickness (thicknesses ls)) ≡ thickness ls
 unfolding thickness
-thickness_lain [] = refl
-thickness_lain (l ∷ ls) = ap (λ (x : ℕ). l.thickness + x) (thickness_lain ls)
+same_thickness [] = refl
+same_thickness (l ∷ ls) = ap (λ (x : ℕ). l.thickness + x) (same_thickness ls)
 
 -- the thicknesses of the first n lamellae are the first n places
 first_thicknesses : (gs ts : List ℕ) (n : ℕ) → n ≤ length ts → thicknesses (lamellae_of gs ts n) ≡ take n ts
@@ -70,23 +70,23 @@ first_thicknesses gs ts (suc n) h =
     ∙ sym (take-suc ts n 0 (omega arith))
 
 module _ (p : Panel) (h : p.count ≤ length p.thicknesses) where
-  pub within_panel : FireFits p → 0 + tenth * thickness (lain (take p.count p.thicknesses)) ≤ 400000000000
+  pub within_panel : FireFits p → 0 + tenth * thickness (by_thickness (take p.count p.thicknesses)) ≤ 400000000000
   within_panel k =
-      rw (← first_thicknesses p.directions p.thicknesses p.count h, thickness_lain (lamellae p))
+      rw (← first_thicknesses p.directions p.thicknesses p.count h, same_thickness (lamellae p))
       (omega (arith, k.thick))
 
-  pub lines_of_panel : p.bond ≡ 1 → lines_from 0 (lain (take p.count p.thicknesses)) ≡ bond_lines p
+  pub lines_of_panel : p.bond ≡ 1 → lines_from 0 (by_thickness (take p.count p.thicknesses)) ≡ bond_lines p
   unfolding bond_lines
-  lines_of_panel e = rw (e, ← first_thicknesses p.directions p.thicknesses p.count h) (lines_lain 0 (lamellae p))
+  lines_of_panel e = rw (e, ← first_thicknesses p.directions p.thicknesses p.count h) (same_lines 0 (lamellae p))
 
-pub no_lines : (p : Panel) → (p.bond ≡ 1 → ⊥) → lines_from 0 (lain []) ≡ bond_lines p
+pub no_lines : (p : Panel) → (p.bond ≡ 1 → ⊥) → lines_from 0 (by_thickness []) ≡ bond_lines p
 unfolding lines_from bond_lines
 no_lines p h = go (eqb p.bond 1) refl
   where
-    go : (b : Bool) → eqb p.bond 1 ≡ b → lines_from 0 (lain []) ≡ bond_lines p
+    go : (b : Bool) → eqb p.bond 1 ≡ b → lines_from 0 (by_thickness []) ≡ bond_lines p
     go true e = absurd (h (eqb-true p.bond 1 e))
     go false e = rw (bond_lines, e)
 
-pub nothing_within : 0 + tenth * thickness (lain []) ≤ 400000000000
+pub nothing_within : 0 + tenth * thickness (by_thickness []) ≤ 400000000000
 unfolding thickness
 nothing_within = omega arith

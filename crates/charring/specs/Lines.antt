@@ -2,5 +2,5 @@
 use Rattle.std.specs.Prelude.{ℕ, List, map}
 use Rattle.panel.specs.Lamellae.{Lamella, lamella}
 
-abbrev pub lain : List ℕ → List Lamella
-lain ts = map (lamella 0) ts
+abbrev pub by_thickness : List ℕ → List Lamella
+by_thickness ts = map (lamella 0) ts

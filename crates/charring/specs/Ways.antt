@@ -5,12 +5,12 @@ use Rattle.charring.specs.declared.Place.{Place}
 use Rattle.charring.specs.declared.lines.Line.{Line}
 use Rattle.charring.specs.declared.lines.Lines.{Lines}
 use Rattle.charring.specs.Fires.{lines_from, line_end}
-use Rattle.charring.specs.Lines.{lain}
+use Rattle.charring.specs.Lines.{by_thickness}
 use Rattle.charring.specs.Stages.{Stretch, fast_part, settled_part}
 
 -- the lines that the iterator has left
 abbrev pub lines_left : Lines → List ℕ
-lines_left it = lines_from it.top (lain it.rest.now)
+lines_left it = lines_from it.top (by_thickness it.rest.now)
 
 -- a call gave the first of them and where its run ends, or `None` where none was left
 abbrev pub GivesLine : Lines → Option Line → Lines → Type 0

@@ -3,7 +3,7 @@ ghost use Rattle.std.specs.Prelude.{◌≡◌, ◌+◌, ◌*◌, ◌≤◌};
 ghost use Rattle.panel.specs.Lamellae.{thickness};
 ghost use Rattle.charring.specs.Fires.{tenth, fast_run, lines_from, line_end};
 ghost use Rattle.charring.specs.Fits.{FireFits};
-ghost use Rattle.charring.specs.Lines.{lain};
+ghost use Rattle.charring.specs.Lines.{by_thickness};
 
 use crate::{FAST_RUN, TENTH};
 use panel::Panel;
@@ -22,13 +22,13 @@ pub(crate) struct Line {
 pub(crate) struct Lines<'a> {
     pub top: u64,
     pub rest: &'a [u16],
-    ghost within: { top + tenth * thickness (lain rest.now) ≤ 400000000000 },
+    ghost within: { top + tenth * thickness (by_thickness rest.now) ≤ 400000000000 },
 }
 
 // 25 mm past a line or at the next line, whichever is nearer, by the lamellae below it.
 fn run_end(line: u64, rest: &[u16]) -> u64
     requires { line ≤ 400000000000 }
-    ensures { (result ≡ line_end line (lines_from line (lain rest.now))) × (result ≤ line + fast_run) }
+    ensures { (result ≡ line_end line (lines_from line (by_thickness rest.now))) × (result ≤ line + fast_run) }
 {
     let past = line + FAST_RUN;
     match rest {

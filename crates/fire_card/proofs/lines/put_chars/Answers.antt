@@ -4,5 +4,6 @@ use Rattle.fire_card.proofs.lines.put_chars.Goals as goal
 
 pub returns : goal.returns
 returns c =
-    put_then (put_then (put_then c.put_char-at30.ensures c.put_char-at60.ensures)
-    c.put_char-at90.ensures) c.put_char.ensures
+    rw (← c.of-fire.ensures)
+    (put_then (put_then (put_then c.put_char-at30.ensures c.put_char-at60.ensures)
+    c.put_char-at90.ensures) c.put_char.ensures)
