@@ -16,7 +16,7 @@ pub returns-in-Some : goal.returns-in-Some
 returns-in-Some c =
     let p = c.args.p in
     let first = c.in-Some.ensures in
-    found_is p c.loop-tenths.tenths c.loop-tenths.invariant _ c.loop-tenths-test.true (omega (arith, first.0, first.1))
+    found_is p c.loop-tenths.tenths c.loop-tenths.invariant _ (omega (arith, c.loop-tenths-test.true)) (omega (arith, first.0, first.1))
     (c.index_behind.ensures.0 ∙ ap (place_on p.face p.count) first.0)
 
 pub returns : goal.returns
