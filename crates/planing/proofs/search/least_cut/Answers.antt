@@ -10,7 +10,7 @@ pub loop-tenths-init : goal.loop-tenths-init
 loop-tenths-init c = λ k l. subst (NoneFor c.args.p) (let z : 0 ≡ k = omega arith in z) (none_for_zero c.args.p)
 
 pub index_behind-requires : goal.index_behind-requires
-index_behind-requires c = (c.in-Some.ensures.1, (accepted_fits c.args.p c.requires.0).count)
+index_behind-requires c = (c.in-Some.ensures.1, (accepted_fits c.args.p c.requires).count)
 
 pub returns-in-Some : goal.returns-in-Some
 returns-in-Some c =
