@@ -1,9 +1,11 @@
 -- Runs of layers: one more at the end, and the last by insulation.
-use Prim.Native.Nat.{ℕ, suc, ◌+◌}
+use Prim.Native.Nat.{ℕ, suc, ◌+◌, ◌≤◌}
 use mathlib.Core.Path.{◌≡◌, refl, sym, ap, ◌∙◌}
 use mathlib.Core.List.{List, [], ◌∷◌, ◌++◌, map, map-append, append_assoc}
 use native.Mathlib.Numerals.{add-one}
-use lib.ListN.{get_or}
+use lib.ListN.{get_or, length, take}
+use Rattle.std.proofs.lemmas.List.{get_or-take, length-take-le}
+use Rattle.numbers.proofs.FirstValues.{firsts_agree}
 use Rattle.panel.specs.Lamellae.{lamella, lamellae_of}
 use Rattle.basic_times.specs.declared.Role.TheVariants.{Protection, Insulation}
 use Rattle.layers.specs.Layers.{Layer, lamella_layer, with_layer, protected_after, sum_after}
@@ -25,6 +27,15 @@ wood_more :
     → map lamella_layer (lamellae_of gs ts (suc i)) ≡ map lamella_layer (lamellae_of gs ts i) ++ (lamella_layer (lamella (get_or gs i 0) (get_or ts i 0)) ∷ [])
 unfolding lamellae_of
 wood_more gs ts i = map-append lamella_layer (lamellae_of gs ts i) (lamella (get_or gs i 0) (get_or ts i 0) ∷ [])
+
+-- the lamellae of thicknesses that are lent alone
+pub lamellae_lent :
+    (gs ts : List ℕ) (n : ℕ) → n ≤ length ts → lamellae_of gs (take n ts) (length (take n ts)) ≡ lamellae_of gs ts n
+unfolding lamellae_of
+lamellae_lent gs ts n h =
+    rw (length-take-le n ts h)
+    (firsts_agree (λ (i : ℕ). lamella (get_or gs i 0) (get_or (take n ts) i 0)) (λ (i : ℕ). lamella (get_or gs i 0) (get_or ts i 0)) n
+    (λ i l. ap (lamella (get_or gs i 0)) (get_or-take n ts i 0 l)))
 
 -- one lamella more, by protection
 pub protected_more :

@@ -6,7 +6,6 @@ use crate::PlaningAnswer;
 use crate::search::least_cut;
 use limits::calls::panel_refusal;
 use panel::Panel;
-use ratings::rei::rei_grade_of;
 
 // The least cut of one lamella that lowers the REI grade.
 pub fn planing(p: Panel) -> PlaningAnswer
@@ -16,5 +15,5 @@ pub fn planing(p: Panel) -> PlaningAnswer
     if n != 0 {
         return PlaningAnswer::Refused(n);
     }
-    least_cut(p, rei_grade_of(p))
+    least_cut(p)
 }

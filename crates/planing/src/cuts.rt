@@ -5,7 +5,7 @@ ghost use Rattle.limits.specs.Causes.{last_minute};
 ghost use Rattle.limits.specs.Refusals.{panel_refusal, refusal_to12};
 ghost use Rattle.grades.specs.Grades.{grade_of};
 ghost use Rattle.ratings.specs.Answers.{rei_grade};
-ghost use Rattle.planing.specs.Cuts.{cut_panel, allowed, lowered};
+ghost use Rattle.planing.specs.Cuts.{cut_panel, lowered};
 ghost use Rattle.planing.specs.Answers.{place_on, cut_behind, lowering, most_cut};
 
 use crate::LEAST_KEPT;
@@ -13,6 +13,15 @@ use grades::Grade;
 use layers::minutes::ei_minute_of;
 use load::lasting::lasts;
 use panel::Panel;
+
+// An accepted panel and its REI grade.
+#[derive(Clone, Copy)]
+pub(crate) struct Rated {
+    pub(crate) panel: Panel,
+    pub(crate) grade: Grade,
+    ghost accepted: { panel_refusal panel ≡ 0 },
+    ghost by_rei: { grade ≡ rei_grade panel },
+}
 
 // The index of the lamella behind so many others as seen from the fire: its place less 1.
 pub(crate) fn index_behind(p: Panel, behind: usize) -> usize
@@ -24,14 +33,6 @@ pub(crate) fn index_behind(p: Panel, behind: usize) -> usize
     } else {
         behind
     }
-}
-
-fn is_allowed(p: Panel, at: usize, tenths: u16) -> bool
-    requires at_lt_count { (at < p.count) × (p.count ≤ 9) }
-    requires tenths_nonzero { (0 < tenths) × (tenths ≤ most_cut) }
-    ensures { result ≡ allowed p (record { place = suc at; tenths = tenths }) }
-{
-    LEAST_KEPT + tenths <= p.thicknesses[at]
 }
 
 // The cut panel; its unused places are the panel's.
@@ -57,15 +58,18 @@ fn is_lowered(minutes: u16, q: Panel) -> bool
     (ei_minute_of(q) as u16) < minutes
 }
 
-// Whether so many tenths may be taken off the lamella behind so many others as seen from the fire, and lower the grade.
-pub(crate) fn is_lowering(p: Panel, grade: Grade, behind: usize, tenths: u16) -> bool
-    requires p_value { (panel_refusal p ≡ 0) × (grade ≡ rei_grade p) }
-    requires behind_lt_count { (behind < p.count) × ((0 < tenths) × (tenths ≤ most_cut)) }
-    ensures { result ≡ lowering p (cut_behind p tenths behind) }
-{
-    let at = index_behind(p, behind);
-    if !is_allowed(p, at, tenths) {
-        return false;
+impl Rated {
+    // Whether so many tenths may be taken off the lamella behind so many others as seen from the fire, and lower the grade.
+    pub(crate) fn is_lowering(self, behind: usize, tenths: u16) -> bool
+        requires behind_lt_count { behind < self.panel.count }
+        requires tenths_nonzero { (0 < tenths) × (tenths ≤ most_cut) }
+        ensures { result ≡ lowering self.panel (cut_behind self.panel tenths behind) }
+    {
+        let p = self.panel;
+        let at = index_behind(p, behind);
+        if p.thicknesses[at] < LEAST_KEPT + tenths {
+            return false;
+        }
+        is_lowered(self.grade.minutes, cut_panel(p, at, tenths))
     }
-    is_lowered(grade.minutes, cut_panel(p, at, tenths))
 }

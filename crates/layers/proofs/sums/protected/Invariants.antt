@@ -9,6 +9,6 @@ use Rattle.layers.proofs.sums.protected.Given as goal
 
 abbrev pub invariant-loop-thickness : goal.invariant-loop-thickness
 invariant-loop-thickness l = record {
-  bounded : l.sum ≤ 2 * longest_time + longest_time * l.thickness-index;
-  so_far : (gs : List ℕ) → l.sum ≡ protected_after l.fn.s (map lamella_layer (lamellae_of gs l.fn.thicknesses l.thickness-index));
+  most : l.sum ≤ 2 * longest_time + longest_time * l.thickness-index;
+  so_far : (gs : List ℕ) → l.sum ≡ protected_after l.fn.s (map lamella_layer (lamellae_of gs l.thicknesses l.thickness-index));
 }

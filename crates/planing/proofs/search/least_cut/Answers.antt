@@ -10,13 +10,13 @@ pub loop-tenths-init : goal.loop-tenths-init
 loop-tenths-init c = λ k l. subst (NoneFor c.args.p) (let z : 0 ≡ k = omega arith in z) (none_for_zero c.args.p)
 
 pub index_behind-requires : goal.index_behind-requires
-index_behind-requires c = (c.in-Some.ensures.1, (accepted_fits c.args.p c.requires.0).count)
+index_behind-requires c = (c.in-Some.ensures.1, (accepted_fits c.args.p c.requires).count)
 
 pub returns-in-Some : goal.returns-in-Some
 returns-in-Some c =
     let p = c.args.p in
     let first = c.in-Some.ensures in
-    found_is p c.loop-tenths.tenths c.loop-tenths.invariant _ c.loop-tenths-test.true (omega (arith, first.0, first.1))
+    found_is p c.loop-tenths.tenths c.loop-tenths.invariant _ (omega (arith, c.loop-tenths-test.true)) (omega (arith, first.0, first.1))
     (c.index_behind.ensures.0 ∙ ap (place_on p.face p.count) first.0)
 
 pub returns : goal.returns
