@@ -13,8 +13,6 @@ use lib.Dec.{T}
 use Rattle.numbers.specs.Choice.{pick}
 use Rattle.limits.specs.Lines.{Line, refusal, numbered, answer}
 use Rattle.limits.proofs.FirstLine.{turned_above, open_above, open_both, turned_back}
-use Rattle.card_text.specs.Stores.{Put}
-use Rattle.card_text.proofs.Storing.{put_over}
 use Rattle.fire_card.specs.declared.CardAnswer.TheVariants.{Written, Refused}
 use Rattle.fire_card.specs.Answers.{short_line, over, text_refusal, text_answer, text_after}
 
@@ -27,12 +25,12 @@ text_short text space h =
     (rw e refl, rw e refl)
 
 pub text_fits :
-    {most k : ℕ} (text space left : List ℕ) → length text ≤ length space → Put space 0 text most k left
-    → (Written (length text) ≡ text_answer [] text space) × (left ≡ text_after [] text space)
+    (text space : List ℕ) → length text ≤ length space
+    → (Written (length text) ≡ text_answer [] text space) × (over text space ≡ text_after [] text space)
 unfolding text_refusal text_answer text_after
-text_fits text space left h p =
+text_fits text space h =
     let e = le-ltb (length space) (length text) h in
-    (rw e refl, put_over p h ∙ rw e refl)
+    (rw e refl, rw e refl)
 
 -- With one
 

@@ -2,9 +2,9 @@
 ghost use Rattle.std.specs.Prelude.{◌≡◌, []};
 ghost use Rattle.fire_card.specs.Answers.{text_answer, text_after, card_answer, card_after, refusal_answer, refusal_after};
 
-use crate::lines::put_card;
-use crate::{CARD_MOST, CardAnswer};
-use card_text::text::{put_bytes, put_line};
+use crate::CardAnswer;
+use crate::lines::text_of_card;
+use card_text::text::Text;
 
 // Copies a text into the lent space, where it fits.
 fn deliver(text: &[u8], out: &mut [u8]) -> CardAnswer
@@ -15,7 +15,7 @@ fn deliver(text: &[u8], out: &mut [u8]) -> CardAnswer
     if out.len() < n {
         return CardAnswer::Refused(14);
     }
-    put_bytes(out, 0, text);
+    out[..n].copy_from_slice(text);
     CardAnswer::Written(n)
 }
 
@@ -28,9 +28,8 @@ pub fn card(bytes: &[u8], out: &mut [u8]) -> CardAnswer
     if reading.refusal != 0 {
         return CardAnswer::Refused(reading.refusal);
     }
-    let mut space = [0u8; CARD_MOST];
-    let n = put_card(&mut space, reading.panel);
-    deliver(&space[..n], out)
+    let text = text_of_card(reading.panel);
+    deliver(text.as_slice(), out)
 }
 
 // The text of a refusal.
@@ -38,7 +37,7 @@ pub fn refusal(n: u8, out: &mut [u8]) -> CardAnswer
     ensures value { result ≡ refusal_answer n out.old }
     ensures out_after { out.new ≡ refusal_after n out.old }
 {
-    let mut space = [0u8; 19];
-    let k = put_line(&mut space, 0, b"REFUSED", &[n as u32]);
-    deliver(&space[..k], out)
+    let mut text = Text::<19>::new();
+    text.push_line(b"REFUSED", &[u32::from(n)]);
+    deliver(text.as_slice(), out)
 }
