@@ -1,6 +1,6 @@
 -- The place only rises, and stays within the space.
 use Rattle.std.proofs.Common.{length, ◌-◌, ◌≤◌}
-use Rattle.test_lines.proofs.input.read_full.Given as goal
+use Rattle.lent_input.proofs.read_full.Given as goal
 
 abbrev pub invariant-loop-n : goal.invariant-loop-n
 invariant-loop-n g l = l.n ≤ length l.space
