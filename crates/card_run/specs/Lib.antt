@@ -1,2 +1,1 @@
-pub mod Counts
 pub mod Input

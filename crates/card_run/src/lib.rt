@@ -6,30 +6,23 @@ pub mod texts;
 
 ghost use Rattle.std.specs.Prelude.{◌≡◌, ◌≤◌, length, take};
 ghost use Rattle.fire_card.specs.Printed.{printed_text};
-ghost use Rattle.card_run.specs.Counts.{IsPrefixLen};
+ghost use Rattle.lent_input.specs.Counts.{IsPrefixLen};
 ghost use Rattle.card_run.specs.Input.{SpeaksForAll};
 
 use fire_card::CARD_MOST;
+use lent_input::read_full;
 use std::io;
 use std::io::Read;
 use texts::text_for;
 
-// What of the input fits into the space; a read that fails ends the input. No open call: there must be room for one byte more than the
+// What of the input fits into the space. No open call: there must be room for one byte more than the
 // longest record has, so that what is printed for the bytes read is what is printed for the whole input.
 fn read_input(input: &mut impl Read, space: &mut [u8]) -> usize
     requires { 55 ≤ length space.old }
     ensures prefix_len { IsPrefixLen result space.new }
     ensures speaks_for_all { SpeaksForAll (length space.old) (take result space.new) }
 {
-    let mut n = 0;
-    while n < space.len() {
-        let more = input.read(&mut space[n..]).unwrap_or(0);
-        if more == 0 {
-            break;
-        }
-        n += more;
-    }
-    n
+    read_full(input, space)
 }
 
 // Hands a text to standard output, and says so on standard error where that takes nothing. No open call: the text must be what is

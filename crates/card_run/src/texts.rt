@@ -2,7 +2,7 @@
 ghost use Rattle.std.specs.Prelude.{◌≡◌, ◌≤◌, length, take};
 ghost use Rattle.fire_card.specs.Card.{card_most, refusal_text};
 ghost use Rattle.fire_card.specs.Printed.{printed_text};
-ghost use Rattle.card_run.specs.Counts.{IsPrefixLen};
+ghost use Rattle.lent_input.specs.Counts.{IsPrefixLen};
 
 use fire_card::CardAnswer;
 

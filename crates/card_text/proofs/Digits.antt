@@ -2,12 +2,14 @@
 use Prim.Native.Nat.{ℕ, zero, suc, ◌+◌, ◌/◌, ◌%◌, ◌^◌, ◌≤◌, ◌<◌}
 use mathlib.Core.Path.{◌≡◌, refl, sym, ap, ◌∙◌}
 use mathlib.Core.Bool.{Bool, true, false}
-use mathlib.Core.List.{List, [], ◌∷◌, ◌++◌}
+use mathlib.Core.List.{List, [], ◌∷◌, ◌++◌, append_assoc}
 use native.Mathlib.Nat.{pow-suc, div-lt_iff_lt-mul}
 use native.Mathlib.Omega.{arith}
 use borrow.Author.Tests.{ltb-true, ltb-false, lt-ltb, le-ltb}
 use lib.Dec.{ltb}
-use lib.ListN.{length, get_or, length-append}
+use lib.ListN.{length, drop, set, get_or, length-append}
+use native.Mathlib.Numerals.{add-one}
+use Rattle.std.proofs.lemmas.List.{drop-set}
 use Rattle.card_text.specs.Text.{digits, decimal}
 
 -- A number below ten is one digit, any other the digits of its tenth part and one more
@@ -60,8 +62,26 @@ pub decimal_more : (n : ℕ) → 10 ≤ n → n < 10000000000 → decimal n ≡ 
 decimal_more n h k =
     digits_more 9 n h ∙ ap (λ (ds : List ℕ). ds ++ ((48 + n % 10) ∷ [])) (sym (digits_enough 8 (n / 10) (omega arith)))
 
-pub length_decimal_more : (n : ℕ) → 10 ≤ n → n < 10000000000 → length (decimal n) ≡ length (decimal (n / 10)) + 1
-length_decimal_more n h k = ap length (decimal_more n h k) ∙ length-append (decimal (n / 10)) ((48 + n % 10) ∷ [])
+-- Stored from the last on, in bytes of which place k is the next
+
+-- the last digit of what is left goes to place k
+pub digit_stored :
+    (k n : ℕ) (bytes text : List ℕ) → 10 ≤ n → k < length bytes → digits (k + 1) n ++ drop (k + 1) bytes ≡ text
+    → digits k (n / 10) ++ drop k (set bytes k (48 + n % 10)) ≡ text
+digit_stored k n bytes text h l e =
+    rw (drop-set bytes k (48 + n % 10) l)
+    (sym (append_assoc (digits k (n / 10)) ((48 + n % 10) ∷ []) (drop (k + 1) bytes))
+    ∙ ap (λ (ds : List ℕ). ds ++ drop (k + 1) bytes) (sym (digits_more k n h) ∙ ap (λ (m : ℕ). digits m n) (sym (add-one k)))
+    ∙ e)
+
+-- and so does a number below ten, which is its first
+pub first_stored :
+    (k n : ℕ) (bytes text : List ℕ) → n < 10 → k < length bytes → digits (k + 1) n ++ drop (k + 1) bytes ≡ text
+    → drop k (set bytes k (48 + n)) ≡ text
+first_stored k n bytes text h l e =
+    drop-set bytes k (48 + n) l
+    ∙ ap (λ (ds : List ℕ). ds ++ drop (k + 1) bytes) (sym (digits_one k n h) ∙ ap (λ (m : ℕ). digits m n) (sym (add-one k)))
+    ∙ e
 
 -- Which bytes
 

@@ -2,5 +2,3 @@
 pub mod Digits
 pub mod Lengths
 pub mod Reading
--- What the functions need: stores that follow each other.
-pub mod Storing

@@ -1,75 +1,117 @@
-// Numbers and lines as text, stored from a place of the lent bytes on. Each function answers the place after what it stored.
-ghost use Rattle.std.specs.Prelude.{◌+◌, ◌*◌, ◌≤◌, ◌∷◌, length};
+// A text of at most N bytes: numbers and lines are added at its end.
+ghost use Rattle.std.specs.Prelude.{◌≡◌, ℕ, ◌+◌, ◌*◌, ◌<◌, ◌≤◌, List, [], ◌∷◌, ◌++◌, length, take, drop};
 ghost use Rattle.card_text.specs.Text.{decimal, text_fields, text_line, time_line};
-ghost use Rattle.card_text.specs.Stores.{Put};
 
-fn put_number(out: &mut [u8], at: usize, n: u32) -> usize
-    requires { at + length (decimal n) ≤ length out.old }
-    ensures { Put out.old at (decimal n) 10 result out.new }
+use std::marker::Model;
+
+#[derive(Drop)]
+pub struct Text<const N: usize> {
+    bytes: [u8; N],
+    length: usize,
+}
+
+// Clauses see the bytes added so far.
+impl<const N: usize> Model for Text<N> {
+    ghost Value = { List ℕ };
+
+    ghost view = { λ t. take t.length t.bytes };
+
+    ghost invariant = { λ t. t.length ≤ N };
+}
+
+// The digits of a number, to the end of ten bytes. Answers the place of the first.
+fn put_digits(bytes: &mut [u8; 10], n: u32) -> usize
+    ensures { (result ≤ 9) × (drop result bytes.new ≡ decimal n) }
 {
-    if n < 10 {
-        out[at] = 48 + n as u8;
-        return at + 1;
+    let mut rest = n;
+    let mut first = 9;
+    while 10 <= rest {
+        bytes[first] = b'0' + (rest % 10) as u8;
+        rest /= 10;
+        first -= 1;
     }
-    let last = put_number(out, at, n / 10);
-    out[last] = 48 + (n % 10) as u8;
-    last + 1
+    bytes[first] = b'0' + rest as u8;
+    first
 }
 
-// A blank, and the number.
-fn put_field(out: &mut [u8], at: usize, n: u32) -> usize
-    requires { at + 11 ≤ length out.old }
-    ensures { Put out.old at (32 ∷ decimal n) 11 result out.new }
-{
-    out[at] = 32;
-    put_number(out, at + 1, n)
-}
-
-fn put_fields(out: &mut [u8], at: usize, numbers: &[u32]) -> usize
-    requires { at + 11 * length numbers.now ≤ length out.old }
-    ensures { Put out.old at (text_fields numbers.now) (11 * length numbers.now) result out.new }
-{
-    let mut end = at;
-    let mut i = 0;
-    while i < numbers.len() {
-        end = put_field(out, end, numbers[i]);
-        i += 1;
+impl<const N: usize> Text<N> {
+    pub fn new() -> Self
+        ensures { result ≡ [] }
+    {
+        Text {
+            bytes: [0; N],
+            length: 0,
+        }
     }
-    end
-}
 
-// Bytes as they are. No open call: they must fit.
-pub fn put_bytes(out: &mut [u8], at: usize, bytes: &[u8]) -> usize
-    requires { at + length bytes.now ≤ length out.old }
-    ensures { Put out.old at bytes.now (length bytes.now) result out.new }
-{
-    let mut i = 0;
-    while i < bytes.len() {
-        out[at + i] = bytes[i];
-        i += 1;
+    pub fn as_slice(&self) -> &[u8]
+        ensures { result.now ≡ self.now }
+    {
+        &self.bytes[..self.length]
     }
-    at + i
-}
 
-// A line: its head, a blank and the digits for each number, and a line feed. No open call: the longest line with so many numbers
-// must fit into the bytes from `at` on.
-pub fn put_line(out: &mut [u8], at: usize, head: &[u8], numbers: &[u32]) -> usize
-    requires { at + length head.now + 11 * length numbers.now + 1 ≤ length out.old }
-    ensures { Put out.old at (text_line head.now numbers.now) (length head.now + 11 * length numbers.now + 1) result out.new }
-{
-    let first = put_bytes(out, at, head);
-    let end = put_fields(out, first, numbers);
-    out[end] = 10;
-    end + 1
-}
+    fn push(&mut self, byte: u8)
+        requires { length self.old < N }
+        ensures { self.new ≡ self.old ++ byte ∷ [] }
+    {
+        self.bytes[self.length] = byte;
+        self.length += 1;
+    }
 
-// A line with a time: its head, a blank, the minutes, a colon, the seconds in two digits, and a line feed. No open call: the longest such
-// line must fit into the bytes from `at` on.
-pub fn put_time(out: &mut [u8], at: usize, head: &[u8], minutes: u32, seconds: u8) -> usize
-    requires { at + length head.now + 15 ≤ length out.old }
-    ensures { Put out.old at (time_line head.now minutes seconds) (length head.now + 15) result out.new }
-{
-    let first = put_bytes(out, at, head);
-    let colon = put_field(out, first, minutes);
-    put_bytes(out, colon, &[58, 48 + seconds / 10, 48 + seconds % 10, 10])
+    // No open call: the bytes must fit.
+    fn push_bytes(&mut self, bytes: &[u8])
+        requires { length self.old + length bytes.now ≤ N }
+        ensures { self.new ≡ self.old ++ bytes.now }
+    {
+        let end = self.length + bytes.len();
+        let space = &mut self.bytes[..];
+        space[self.length..end].copy_from_slice(bytes);
+        self.length = end;
+    }
+
+    fn push_number(&mut self, n: u32)
+        requires { length self.old + 10 ≤ N }
+        ensures added { self.new ≡ self.old ++ decimal n }
+        ensures most { length self.new ≤ length self.old + 10 }
+    {
+        let mut digits = [0; 10];
+        let first = put_digits(&mut digits, n);
+        self.push_bytes(&digits[first..]);
+    }
+
+    // A blank, and the number.
+    fn push_field(&mut self, n: u32)
+        requires { length self.old + 11 ≤ N }
+        ensures added { self.new ≡ self.old ++ 32 ∷ decimal n }
+        ensures most { length self.new ≤ length self.old + 11 }
+    {
+        self.push(b' ');
+        self.push_number(n);
+    }
+
+    // A line: its head, a blank and the digits for each number, and a line feed. No open call: the longest line with so many numbers
+    // must fit.
+    pub fn push_line(&mut self, head: &[u8], numbers: &[u32])
+        requires { length self.old + length head.now + 11 * length numbers.now + 1 ≤ N }
+        ensures added { self.new ≡ self.old ++ text_line head.now numbers.now }
+        ensures most { length self.new ≤ length self.old + length head.now + 11 * length numbers.now + 1 }
+    {
+        self.push_bytes(head);
+        for n in numbers {
+            self.push_field(*n);
+        }
+        self.push(b'\n');
+    }
+
+    // A line with a time: its head, a blank, the minutes, a colon, the seconds in two digits, and a line feed. No open call: the longest
+    // such line must fit.
+    pub fn push_time(&mut self, head: &[u8], minutes: u32, seconds: u8)
+        requires { length self.old + length head.now + 15 ≤ N }
+        ensures added { self.new ≡ self.old ++ time_line head.now minutes seconds }
+        ensures most { length self.new ≤ length self.old + length head.now + 15 }
+    {
+        self.push_bytes(head);
+        self.push_field(minutes);
+        self.push_bytes(&[b':', b'0' + seconds / 10, b'0' + seconds % 10, b'\n']);
+    }
 }

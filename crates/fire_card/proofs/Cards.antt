@@ -1,4 +1,4 @@
--- The card call: what is read from the bytes, and how long a card is at most.
+-- How long a card is at most.
 use Prim.Native.Nat.{ℕ, zero, suc, ◌+◌, ◌≤◌}
 use mathlib.Core.Path.{◌≡◌, refl, sym, ap, ◌∙◌}
 use mathlib.Core.List.{List, [], ◌∷◌, ◌++◌}
@@ -6,11 +6,6 @@ use lib.ListN.{length, length-append}
 use native.Mathlib.Omega.{arith}
 use Rattle.panel.specs.declared.Panel.{Panel}
 use Rattle.panel.specs.Faces.{shown}
-use Rattle.limits.specs.Lines.{answer}
-use Rattle.record.specs.Layouts.{panel_of}
-use Rattle.record.specs.Refusals.{record_refusal}
-use Rattle.record.specs.declared.Reading.{Reading}
-use Rattle.record.specs.Answers.{reading, blank, decode}
 use Rattle.layers.specs.Layers.{printed_ei}
 use Rattle.grades.specs.Grades.{grade_of, rei_of}
 use Rattle.charring.specs.Depths.{micrometres_at, tenths_at}
@@ -18,28 +13,6 @@ use Rattle.card_text.specs.Text.{text_line, time_line}
 use Rattle.card_text.proofs.Lengths.{length_line, length_time}
 use Rattle.load.specs.LoadMinute.{printed_load, printed_load_seconds, minutes_in, seconds_over}
 use Rattle.fire_card.specs.Card.{card_head, char_head, load_head, time_head, ei_head, rei_head, char_line, char_lines, load_lines, rating_lines, text_of_card, card_most}
-
--- What stands in a record
-
-pub read_refusal : (b : List ℕ) → (decode b).refusal ≡ record_refusal b
-unfolding decode
-read_refusal b = go (record_refusal b)
-  where
-    go : (n : ℕ) → (answer n (λ (k : ℕ). reading k blank) (reading 0 (panel_of b))).refusal ≡ n
-    go zero = refl
-    go (suc n) = refl
-
-read_panel : (b : List ℕ) → record_refusal b ≡ 0 → (decode b).panel ≡ panel_of b
-unfolding decode
-read_panel b e = rw e refl
-
--- what is read, by the refusal that stands beside it
-pub none_read : (b : List ℕ) (x : Reading) → x ≡ decode b → x.refusal ≡ 0 → (record_refusal b ≡ 0) × (x.panel ≡ panel_of b)
-none_read b x e z =
-    let none = sym (ap (λ (y : Reading). y.refusal) e ∙ read_refusal b) ∙ z in
-    (none, ap (λ (y : Reading). y.panel) e ∙ read_panel b none)
-
--- Lengths
 
 both_most : (xs ys : List ℕ) (m n : ℕ) → length xs ≤ m → length ys ≤ n → length (xs ++ ys) ≤ m + n
 both_most xs ys m n h k = simp length-append (omega arith)

@@ -13,36 +13,31 @@ use lib.Dec.{T}
 use Rattle.numbers.specs.Choice.{pick}
 use Rattle.limits.specs.Lines.{Line, refusal, numbered, answer}
 use Rattle.limits.proofs.FirstLine.{turned_above, open_above, open_both, turned_back}
-use Rattle.card_text.specs.Stores.{Put}
-use Rattle.card_text.proofs.Storing.{put_over}
-use Rattle.fire_card.specs.declared.CardAnswer.TheVariants.{Written, Refused}
+use Rattle.std.specs.Prelude.{Ok, Err}
 use Rattle.fire_card.specs.Answers.{short_line, over, text_refusal, text_answer, text_after}
 
 -- Without a table
 
-pub text_short : (text space : List ℕ) → length space < length text → (Refused 14 ≡ text_answer [] text space) × (space ≡ text_after [] text space)
-unfolding text_refusal text_answer text_after
-text_short text space h =
-    let e = lt-ltb (length space) (length text) h in
-    (rw e refl, rw e refl)
-
 pub text_fits :
-    {most k : ℕ} (text space left : List ℕ) → length text ≤ length space → Put space 0 text most k left
-    → (Written (length text) ≡ text_answer [] text space) × (left ≡ text_after [] text space)
+    (text space : List ℕ) → length text ≤ length space
+    → (Ok (length text) ≡ text_answer [] text space) × (over text space ≡ text_after [] text space)
 unfolding text_refusal text_answer text_after
-text_fits text space left h p =
+text_fits text space h =
     let e = le-ltb (length space) (length text) h in
-    (rw e refl, put_over p h ∙ rw e refl)
+    (rw e refl, rw e refl)
 
 -- With one
 
 module _ (table : List Line) (text space : List ℕ) where
-  -- a text that the table turns back: nothing is written
-  pub text_refused : {n : ℕ} → n ≡ refusal table → (n ≡ 0 → ⊥) → (Refused n ≡ text_answer table text space) × (space ≡ text_after table text space)
-  unfolding text_refusal text_answer text_after
-  text_refused e ne =
-      let t = turned_above table (short_line text space ∷ []) e ne in
-      (turned_back Refused (Written (length text)) t ne, turned_back (λ (k : ℕ). space) (over text space) t ne)
+  -- a text that is refused: nothing is written
+  pub text_refused_so : {n : ℕ} → n ≡ text_refusal table text space → (n ≡ 0 → ⊥) → (Err n ≡ text_answer table text space) × (space ≡ text_after table text space)
+  unfolding text_answer text_after
+  text_refused_so e ne = (turned_back Err (Ok (length text)) e ne, turned_back (λ (k : ℕ). space) (over text space) e ne)
+
+  -- as where the table refuses it
+  pub text_refused : {n : ℕ} → n ≡ refusal table → (n ≡ 0 → ⊥) → (Err n ≡ text_answer table text space) × (space ≡ text_after table text space)
+  unfolding text_refusal
+  text_refused e ne = text_refused_so (turned_above table (short_line text space ∷ []) e ne) ne
 
   -- a text that the table lets through: as if there were no table
   pub text_delivered :
@@ -51,15 +46,15 @@ module _ (table : List Line) (text space : List ℕ) where
   unfolding text_refusal text_answer text_after
   text_delivered t e =
       let same = open_above table (short_line text space ∷ []) t refl e refl in (
-        ap (λ (n : ℕ). answer n Refused (Written (length text))) same,
+        ap (λ (n : ℕ). answer n Err (Ok (length text))) same,
         ap (λ (n : ℕ). answer n (λ (k : ℕ). space) (over text space)) same,
       )
 
   -- What an answer tells
 
-  -- `Written k`: the table lets the text through, and it stands in the first k bytes of what is left
+  -- `Ok k`: the table lets the text through, and it stands in the first k bytes of what is left
   pub text_stands :
-      T (numbered table) → (k : ℕ) → text_answer table text space ≡ Written k
+      T (numbered table) → (k : ℕ) → text_answer table text space ≡ Ok k
       → (refusal table ≡ 0) × ((k ≡ length text) × (take k (text_after table text space) ≡ text))
   unfolding text_refusal text_answer text_after
   text_stands t k = go (refusal lines) refl
@@ -68,16 +63,16 @@ module _ (table : List Line) (text space : List ℕ) where
       lines = table ++ (short_line text space ∷ [])
 
       go :
-          (n : ℕ) → refusal lines ≡ n → answer n Refused (Written (length text)) ≡ Written k
+          (n : ℕ) → refusal lines ≡ n → answer n Err (Ok (length text)) ≡ Ok k
           → (refusal table ≡ 0) × ((k ≡ length text) × (take k (answer n (λ (m : ℕ). space) (over text space)) ≡ text))
       go zero e a =
           let same : k ≡ length text = cc in
           ((open_both table (short_line text space ∷ []) t e).0, (same, rw same (take-append_seam text (drop (length text) space))))
       go (suc n) e a = absurd (let z : ◌≡◌ {A = ℕ} 0 1 = cc in let w : ⊥ = omega arith in w)
 
-  -- `Refused n` where the text would fit: n is the table's refusal
+  -- `Err n` where the text would fit: n is the table's refusal
   pub text_turned :
-      T (numbered table) → length text ≤ length space → (n : ℕ) → text_answer table text space ≡ Refused n
+      T (numbered table) → length text ≤ length space → (n : ℕ) → text_answer table text space ≡ Err n
       → (n ≡ refusal table) × (n ≡ 0 → ⊥)
   unfolding text_refusal text_answer
   text_turned t h n a = go (refusal table) refl
@@ -88,12 +83,12 @@ module _ (table : List Line) (text space : List ℕ) where
       go : (m : ℕ) → refusal table ≡ m → (n ≡ refusal table) × (n ≡ 0 → ⊥)
       go zero e =
           let none : 0 ≡ refusal (table ++ (short_line text space ∷ [])) = open_above table (short_line text space ∷ []) t refl e (sym room) in
-          let w : answer 0 Refused (Written (length text)) ≡ Refused n = ap (λ (m : ℕ). answer m Refused (Written (length text))) none ∙ a in
+          let w : answer 0 Err (Ok (length text)) ≡ Err n = ap (λ (m : ℕ). answer m Err (Ok (length text))) none ∙ a in
           absurd (let z : ◌≡◌ {A = ℕ} 0 1 = cc in let w : ⊥ = omega arith in w)
       go (suc m) e =
           let w = (text_refused (sym e) (suc-ne-zero m)).0 in
           let same : n ≡ suc m = refused_same (sym a ∙ sym w) in
           (same ∙ sym e, λ z. suc-ne-zero m (sym same ∙ z))
         where
-          refused_same : {i j : ℕ} → Refused i ≡ Refused j → i ≡ j
+          refused_same : {i j : ℕ} → Err i ≡ Err j → i ≡ j
           refused_same x = cc

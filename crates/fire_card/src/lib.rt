@@ -6,10 +6,3 @@ mod lines;
 
 // No card has more bytes.
 pub const CARD_MOST: usize = 249;
-
-// The number of bytes written, or the refusal's number.
-#[derive(Clone, Copy)]
-pub enum CardAnswer {
-    Written(usize),
-    Refused(u8),
-}

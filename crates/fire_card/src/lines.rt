@@ -1,74 +1,72 @@
-// The lines of a card, one after the other. No open calls: the panel must be accepted, and the longest card must fit.
-ghost use Rattle.std.specs.Prelude.{◌≡◌, ◌+◌, ◌≤◌, length};
+// The lines of a card, one after the other. No open calls: the longest card must fit.
+ghost use Rattle.std.specs.Prelude.{◌≡◌, ◌+◌, ◌≤◌, ◌++◌, length};
 ghost use Rattle.limits.specs.Causes.{last_minute};
-ghost use Rattle.card_text.specs.Stores.{Put};
-ghost use Rattle.limits.specs.Refusals.{panel_refusal};
-ghost use Rattle.charring.specs.Fits.{FireFits};
 ghost use Rattle.fire_card.specs.Card.{char_line, char_lines, load_lines, rating_lines, text_of_card, card_most};
 
-use card_text::text::{put_line, put_time};
+use crate::CARD_MOST;
+use card_text::text::Text;
 use charring::{Fire, Time};
 use grades::Grade;
 use layers::minutes::ei_minute_of;
+use limits::check::Accepted;
 use load::minutes::{load_seconds_of, minutes_in, seconds_over};
-use panel::Panel;
-use panel::faces::shown;
 
-fn put_char(out: &mut [u8], at: usize, fire: &Fire, minute: u32) -> usize
-    requires { (minute ≤ last_minute) × (at + 38 ≤ length out.old) }
-    ensures { Put out.old at (char_line fire.now.panel minute) 38 result out.new }
+fn push_char(text: &mut Text<CARD_MOST>, fire: &Fire, minute: u32)
+    requires minute_le_last_minute { minute ≤ last_minute }
+    requires room { length text.old + 38 ≤ card_most }
+    ensures added { text.new ≡ text.old ++ char_line fire.now.panel minute }
+    ensures most { length text.new ≤ length text.old + 38 }
 {
     let char = fire.micrometres(u64::from(minute));
     let depth = fire.tenths(Time::minute(u64::from(minute)));
-    put_line(out, at, b"CHAR", &[minute, char, depth])
+    text.push_line(b"CHAR", &[minute, char, depth]);
 }
 
-fn put_chars(out: &mut [u8], at: usize, p: Panel) -> usize
-    requires fire_fits { FireFits p }
-    requires at_in_bounds { at + 152 ≤ length out.old }
-    ensures { Put out.old at (char_lines p) 152 result out.new }
+fn push_chars(text: &mut Text<CARD_MOST>, fire: &Fire)
+    requires room { length text.old + 152 ≤ card_most }
+    ensures added { text.new ≡ text.old ++ char_lines fire.now.panel }
+    ensures most { length text.new ≤ length text.old + 152 }
 {
-    let fire = Fire::of(p);
-    let at30 = put_char(out, at, &fire, 30);
-    let at60 = put_char(out, at30, &fire, 60);
-    let at90 = put_char(out, at60, &fire, 90);
-    put_char(out, at90, &fire, 120)
+    for minute in [30, 60, 90, 120] {
+        push_char(text, fire, minute);
+    }
 }
 
-fn put_load(out: &mut [u8], at: usize, load: u16, seconds: u16) -> usize
+fn push_load(text: &mut Text<CARD_MOST>, load: u16, seconds: u16)
     requires load_le_last_minute { load ≤ last_minute }
-    requires at_in_bounds { at + 41 ≤ length out.old }
-    ensures { Put out.old at (load_lines load seconds) 41 result out.new }
+    requires room { length text.old + 41 ≤ card_most }
+    ensures added { text.new ≡ text.old ++ load_lines load seconds }
+    ensures most { length text.new ≤ length text.old + 41 }
 {
     let r = Grade::of(load);
-    let minutes = minutes_in(seconds) as u32;
-    let over = seconds_over(seconds);
-    let after_r = put_line(out, at, b"R", &[load as u32, r.minutes as u32]);
-    put_time(out, after_r, b"RS", minutes, over)
+    text.push_line(b"R", &[u32::from(load), u32::from(r.minutes)]);
+    let minutes = u32::from(minutes_in(seconds));
+    text.push_time(b"RS", minutes, seconds_over(seconds));
 }
 
-fn put_ratings(out: &mut [u8], at: usize, load: u16, seconds: u16, ei: u16) -> usize
+fn push_ratings(text: &mut Text<CARD_MOST>, load: u16, seconds: u16, ei: u16)
     requires load_le_last_minute { (load ≤ last_minute) × (ei ≤ last_minute) }
-    requires at_in_bounds { at + 81 ≤ length out.old }
-    ensures { Put out.old at (rating_lines load seconds ei) 81 result out.new }
+    requires room { length text.old + 81 ≤ card_most }
+    ensures { text.new ≡ text.old ++ rating_lines load seconds ei }
 {
     let e = Grade::of(ei);
     let both = Grade::of_lower(load, ei);
-    let after_load = put_load(out, at, load, seconds);
-    let after_ei = put_line(out, after_load, b"EI", &[ei as u32, e.minutes as u32]);
-    put_line(out, after_ei, b"REI", &[both.minutes as u32])
+    push_load(text, load, seconds);
+    text.push_line(b"EI", &[u32::from(ei), u32::from(e.minutes)]);
+    text.push_line(b"REI", &[u32::from(both.minutes)]);
 }
 
-// The whole card, from the start of the space on.
-pub(crate) fn put_card(out: &mut [u8], p: Panel) -> usize
-    requires p_value { panel_refusal p ≡ 0 }
-    requires card_most_in_bounds { card_most ≤ length out.old }
-    ensures { Put out.old 0 (text_of_card p) card_most result out.new }
+// The whole card.
+pub(crate) fn text_of_card(accepted: Accepted) -> Text<CARD_MOST>
+    ensures { result ≡ text_of_card accepted }
 {
-    let seconds = load_seconds_of(p);
+    let panel = accepted.panel();
+    let seconds = load_seconds_of(panel);
     let load = minutes_in(seconds);
-    let ei = ei_minute_of(p);
-    let head = put_line(out, 0, b"CARD", &[p.version as u32]);
-    let chars = put_chars(out, head, shown(p));
-    put_ratings(out, chars, load, seconds, ei as u16)
+    let ei = ei_minute_of(panel);
+    let mut text = Text::new();
+    text.push_line(b"CARD", &[u32::from(panel.version)]);
+    push_chars(&mut text, &Fire::of(accepted.shown().panel()));
+    push_ratings(&mut text, load, seconds, ei as u16);
+    text
 }

@@ -10,20 +10,13 @@ pub fn number(rt: &impl Print, n: u64) -> io::Result<()> {
 }
 
 pub fn refused(rt: &impl Print, n: u8) -> io::Result<()> {
-    text(rt, b"refused ")?;
-    number(rt, n as u64)
-}
-
-fn hex_byte(rt: &impl Print, b: u8) -> io::Result<()> {
-    print!(rt; "{b:02x}")
+    print!(rt; "refused {n}")
 }
 
 // Two hexadecimal digits for each byte.
 pub fn hex(rt: &impl Print, s: &[u8]) -> io::Result<()> {
-    let mut i = 0;
-    while i < s.len() {
-        hex_byte(rt, s[i])?;
-        i += 1;
+    for byte in s {
+        print!(rt; "{byte:02x}")?;
     }
     Ok(())
 }

@@ -3,7 +3,7 @@
 use crate::records::panel_of;
 use limits::BuildAnswer;
 use std::io;
-use test_lines::input::{after_word, first_word};
+use test_lines::input::split_word;
 use test_lines::output;
 
 fn print_answer(rt: &impl Print, answer: BuildAnswer) -> io::Result<()> {
@@ -15,10 +15,11 @@ fn print_answer(rt: &impl Print, answer: BuildAnswer) -> io::Result<()> {
 }
 
 pub fn answer(rt: &impl Print, line: &[u8]) -> io::Result<()> {
-    let rest = after_word(line);
-    let a = panel_of(first_word(line));
-    let b = panel_of(first_word(rest));
+    let (first, rest) = split_word(line);
+    let (second, name) = split_word(rest);
+    let a = panel_of(first);
+    let b = panel_of(second);
     output::text(rt, b"build ")?;
     print_answer(rt, limits::calls::same_build(a, b))?;
-    output::end_line(rt, after_word(rest))
+    output::end_line(rt, name)
 }

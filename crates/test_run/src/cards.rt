@@ -4,32 +4,24 @@
 ghost use Rattle.std.specs.Prelude.{◌≤◌, length};
 
 use fire_card::CardAnswer;
-use numbers::sizes::lesser;
 use std::io;
-use test_lines::input::{after_word, first_word, hex_bytes, number, number8};
+use test_lines::input::{hex_bytes, number, split_word};
 use test_lines::output;
 
 fn card_into(record: &[u8], out: &mut [u8], space: usize) -> CardAnswer
     requires { space ≤ length out.old }
 {
-    fire_card::calls::card(record, &mut out[0..space])
+    fire_card::calls::card(record, &mut out[..space])
 }
 
 fn refusal_into(n: u8, out: &mut [u8], space: usize) -> CardAnswer
     requires { space ≤ length out.old }
 {
-    fire_card::calls::refusal(n, &mut out[0..space])
+    fire_card::calls::refusal(n, &mut out[..space])
 }
 
 fn is_full_stops(bytes: &[u8]) -> bool {
-    let mut i = 0;
-    while i < bytes.len() {
-        if bytes[i] != b'.' {
-            return false;
-        }
-        i += 1;
-    }
-    true
+    bytes.iter().all(|byte| *byte == b'.')
 }
 
 fn print_unwritten(rt: &impl Print, bytes: &[u8]) -> io::Result<()> {
@@ -41,11 +33,11 @@ fn print_unwritten(rt: &impl Print, bytes: &[u8]) -> io::Result<()> {
 }
 
 fn print_written(rt: &impl Print, n: usize, bytes: &[u8], name: &[u8]) -> io::Result<()> {
-    let end = lesser(n, bytes.len());
-    output::number(rt, n as u64)?;
-    print_unwritten(rt, &bytes[end..])?;
+    let (written, unwritten) = bytes.split_at(n.min(bytes.len()));
+    print!(rt; "{n}")?;
+    print_unwritten(rt, unwritten)?;
     output::end_line(rt, name)?;
-    output::text(rt, &bytes[0..end])
+    output::text(rt, written)
 }
 
 fn print_refused(rt: &impl Print, n: u8, bytes: &[u8], name: &[u8]) -> io::Result<()> {
@@ -65,24 +57,26 @@ fn print_answer(rt: &impl Print, answer: CardAnswer, bytes: &[u8], name: &[u8]) 
 fn space_of(word: &[u8]) -> usize
     ensures { result ≤ 200 }
 {
-    lesser(number(word) as usize, 200)
+    (number(word) as usize).min(200)
 }
 
 pub fn answer_card(rt: &impl Print, line: &[u8]) -> io::Result<()> {
-    let rest = after_word(line);
+    let (hex, rest) = split_word(line);
+    let (space, name) = split_word(rest);
     let mut record = [0u8; 128];
-    let n = hex_bytes(first_word(line), &mut record);
+    let n = hex_bytes(hex, &mut record);
     let mut bytes = [b'.'; 200];
-    let answer = card_into(&record[..n], &mut bytes, space_of(first_word(rest)));
+    let answer = card_into(&record[..n], &mut bytes, space_of(space));
     output::text(rt, b"card ")?;
-    print_answer(rt, answer, &bytes, after_word(rest))
+    print_answer(rt, answer, &bytes, name)
 }
 
 pub fn answer_refusal(rt: &impl Print, line: &[u8]) -> io::Result<()> {
-    let rest = after_word(line);
-    let n = number8(first_word(line));
+    let (refusal, rest) = split_word(line);
+    let (space, name) = split_word(rest);
+    let n = u8::try_from(number(refusal)).unwrap_or(u8::MAX);
     let mut bytes = [b'.'; 200];
-    let answer = refusal_into(n, &mut bytes, space_of(first_word(rest)));
+    let answer = refusal_into(n, &mut bytes, space_of(space));
     output::text(rt, b"refusal ")?;
-    print_answer(rt, answer, &bytes, after_word(rest))
+    print_answer(rt, answer, &bytes, name)
 }

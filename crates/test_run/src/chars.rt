@@ -4,12 +4,12 @@ use crate::records::panel_of;
 use charring::{DepthAnswer, Phase, PhaseAnswer};
 use panel::Panel;
 use std::io;
-use test_lines::input::{after_word, first_word, number16};
+use test_lines::input::{number16, split_word};
 use test_lines::output;
 
 fn print_depth(rt: &impl Print, answer: DepthAnswer) -> io::Result<()> {
     match answer {
-        DepthAnswer::Depth(depth) => output::number(rt, depth as u64),
+        DepthAnswer::Depth(depth) => print!(rt; "{depth}"),
         DepthAnswer::Refused(n) => output::refused(rt, n),
     }
 }
@@ -18,10 +18,7 @@ fn print_phase(rt: &impl Print, phase: Phase) -> io::Result<()> {
     match phase {
         Phase::Untouched => output::text(rt, b"untouched"),
         Phase::UnderCladding => output::text(rt, b"under cladding"),
-        Phase::Fast(end) => {
-            output::text(rt, b"fast ")?;
-            output::number(rt, end as u64)
-        }
+        Phase::Fast(end) => { print!(rt; "fast {end}") }
         Phase::Settled => output::text(rt, b"settled"),
     }
 }
@@ -37,7 +34,7 @@ fn print_char(rt: &impl Print, p: Panel, minute: u16) -> io::Result<()> {
     let answer = charring::calls::char_depth(p, minute);
     match answer {
         DepthAnswer::Depth(depth) => {
-            output::number(rt, depth as u64)?;
+            print!(rt; "{depth}")?;
             output::text(rt, b" ")?;
             print_depth(rt, charring::calls::effective_depth(p, minute))?;
             output::text(rt, b" ")?;
@@ -48,9 +45,9 @@ fn print_char(rt: &impl Print, p: Panel, minute: u16) -> io::Result<()> {
 }
 
 pub fn answer(rt: &impl Print, line: &[u8]) -> io::Result<()> {
-    let minute = number16(first_word(line));
-    let rest = after_word(line);
+    let (minute, rest) = split_word(line);
+    let (record, name) = split_word(rest);
     output::text(rt, b"char ")?;
-    print_char(rt, panel_of(first_word(rest)), minute)?;
-    output::end_line(rt, after_word(rest))
+    print_char(rt, panel_of(record), number16(minute))?;
+    output::end_line(rt, name)
 }

@@ -4,45 +4,51 @@
 use crate::records::panel_of;
 use grades::GradeAnswer;
 use std::io;
-use test_lines::input::{after_word, first_word, number16};
+use test_lines::input::{number16, split_word};
 use test_lines::output;
 
 fn print_answer(rt: &impl Print, answer: GradeAnswer) -> io::Result<()> {
     match answer {
-        GradeAnswer::Of(grade) => output::number(rt, grade.minutes as u64),
+        GradeAnswer::Of(grade) => {
+            let minutes = grade.minutes;
+            print!(rt; "{minutes}")
+        }
         GradeAnswer::Refused(n) => output::refused(rt, n),
     }
 }
 
 pub fn answer_grade(rt: &impl Print, line: &[u8]) -> io::Result<()> {
+    let (minute, name) = split_word(line);
     output::text(rt, b"grade ")?;
-    print_answer(rt, grades::calls::grade_of(number16(first_word(line))))?;
-    output::end_line(rt, after_word(line))
+    print_answer(rt, grades::calls::grade_of(number16(minute)))?;
+    output::end_line(rt, name)
 }
 
 pub fn answer_rei(rt: &impl Print, line: &[u8]) -> io::Result<()> {
-    let rest = after_word(line);
-    let r = number16(first_word(line));
-    let ei = number16(first_word(rest));
+    let (r, rest) = split_word(line);
+    let (ei, name) = split_word(rest);
     output::text(rt, b"rei ")?;
-    print_answer(rt, grades::calls::rei_of(r, ei))?;
-    output::end_line(rt, after_word(rest))
+    print_answer(rt, grades::calls::rei_of(number16(r), number16(ei)))?;
+    output::end_line(rt, name)
 }
 
 pub fn answer_load_grade(rt: &impl Print, line: &[u8]) -> io::Result<()> {
+    let (record, name) = split_word(line);
     output::text(rt, b"loadgrade ")?;
-    print_answer(rt, ratings::calls::load_grade(panel_of(first_word(line))))?;
-    output::end_line(rt, after_word(line))
+    print_answer(rt, ratings::calls::load_grade(panel_of(record)))?;
+    output::end_line(rt, name)
 }
 
 pub fn answer_ei_grade(rt: &impl Print, line: &[u8]) -> io::Result<()> {
+    let (record, name) = split_word(line);
     output::text(rt, b"eigrade ")?;
-    print_answer(rt, ratings::calls::ei_grade(panel_of(first_word(line))))?;
-    output::end_line(rt, after_word(line))
+    print_answer(rt, ratings::calls::ei_grade(panel_of(record)))?;
+    output::end_line(rt, name)
 }
 
 pub fn answer_rei_grade(rt: &impl Print, line: &[u8]) -> io::Result<()> {
+    let (record, name) = split_word(line);
     output::text(rt, b"reigrade ")?;
-    print_answer(rt, ratings::calls::rei_grade(panel_of(first_word(line))))?;
-    output::end_line(rt, after_word(line))
+    print_answer(rt, ratings::calls::rei_grade(panel_of(record)))?;
+    output::end_line(rt, name)
 }

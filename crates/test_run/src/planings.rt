@@ -3,26 +3,20 @@
 use crate::records::panel_of;
 use planing::PlaningAnswer;
 use std::io;
-use test_lines::input::{after_word, first_word};
+use test_lines::input::split_word;
 use test_lines::output;
-
-fn print_cut(rt: &impl Print, place: u8, tenths: u16) -> io::Result<()> {
-    output::text(rt, b"place ")?;
-    output::number(rt, place as u64)?;
-    output::text(rt, b" tenths ")?;
-    output::number(rt, tenths as u64)
-}
 
 fn print_planing(rt: &impl Print, answer: PlaningAnswer) -> io::Result<()> {
     match answer {
-        PlaningAnswer::PlaceAndTenths(place, tenths) => print_cut(rt, place, tenths),
+        PlaningAnswer::PlaceAndTenths(place, tenths) => print!(rt; "place {place} tenths {tenths}"),
         PlaningAnswer::NoCut => output::text(rt, b"none"),
         PlaningAnswer::Refused(n) => output::refused(rt, n),
     }
 }
 
 pub fn answer(rt: &impl Print, line: &[u8]) -> io::Result<()> {
+    let (record, name) = split_word(line);
     output::text(rt, b"planing ")?;
-    print_planing(rt, planing::calls::planing(panel_of(first_word(line))))?;
-    output::end_line(rt, after_word(line))
+    print_planing(rt, planing::calls::planing(panel_of(record)))?;
+    output::end_line(rt, name)
 }

@@ -3,16 +3,12 @@
 use panel::Panel;
 use record::Writing;
 use std::io;
-use test_lines::input::{after_word, first_word, hex_bytes};
+use test_lines::input::{hex_bytes, split_word};
 use test_lines::output;
 
 // Whether the first k bytes of the space are these.
 fn is_front(space: &[u8], k: usize, bytes: &[u8]) -> bool {
-    if k <= space.len() {
-        &space[0..k] == bytes
-    } else {
-        false
-    }
+    space.get(..k) == Some(bytes)
 }
 
 fn gives_back(p: Panel, bytes: &[u8]) -> bool {
@@ -27,7 +23,7 @@ fn gives_back(p: Panel, bytes: &[u8]) -> bool {
 fn print_reading(rt: &impl Print, bytes: &[u8]) -> io::Result<()> {
     let reading = record::calls::read(bytes);
     let refusal = reading.refusal;
-    output::number(rt, refusal as u64)?;
+    print!(rt; "{refusal}")?;
     if refusal == 0 {
         let p = reading.panel;
         if gives_back(p, bytes) {
@@ -40,9 +36,10 @@ fn print_reading(rt: &impl Print, bytes: &[u8]) -> io::Result<()> {
 }
 
 pub fn answer(rt: &impl Print, line: &[u8]) -> io::Result<()> {
+    let (hex, name) = split_word(line);
     let mut bytes = [0u8; 128];
-    let n = hex_bytes(first_word(line), &mut bytes);
+    let n = hex_bytes(hex, &mut bytes);
     output::text(rt, b"read ")?;
     print_reading(rt, &bytes[..n])?;
-    output::end_line(rt, after_word(line))
+    output::end_line(rt, name)
 }

@@ -10,7 +10,6 @@ use crate::records::panel_of;
 use limits::SectionAnswer;
 use limits::calls::panel_refusal;
 use limits::causes::total_thickness;
-use numbers::words64::lesser;
 use panel::Panel;
 use panel::faces::shown;
 use panel::timber::factor_of;
@@ -18,20 +17,12 @@ use section::Section;
 use section::carry::{carried_at_start, deeper};
 use section::test::section_passes;
 use std::io;
-use test_lines::input::{after_word, first_word, number};
+use test_lines::input::{number, split_word};
 use test_lines::output;
 
-fn print_number(rt: &impl Print, n: u64) -> io::Result<()> {
-    output::number(rt, n)?;
-    output::text(rt, b" ")
-}
-
 fn print_section(rt: &impl Print, s: Section) -> io::Result<()> {
-    print_number(rt, s.n)?;
-    print_number(rt, s.p)?;
-    print_number(rt, s.q)?;
-    print_number(rt, s.lo)?;
-    print_number(rt, s.hi)
+    let Section { n, p, q, lo, hi } = s;
+    print!(rt; "{n} {p} {q} {lo} {hi} ")
 }
 
 fn print_answer(rt: &impl Print, answer: SectionAnswer) -> io::Result<()> {
@@ -49,14 +40,11 @@ fn print_answer(rt: &impl Print, answer: SectionAnswer) -> io::Result<()> {
 }
 
 pub fn answer_section(rt: &impl Print, line: &[u8]) -> io::Result<()> {
-    let depth = number(first_word(line));
-    let rest = after_word(line);
+    let (depth, rest) = split_word(line);
+    let (record, name) = split_word(rest);
     output::text(rt, b"section ")?;
-    print_answer(
-        rt,
-        limits::calls::section(panel_of(first_word(rest)), depth),
-    )?;
-    output::end_line(rt, after_word(rest))
+    print_answer(rt, limits::calls::section(panel_of(record), number(depth)))?;
+    output::end_line(rt, name)
 }
 
 // No open call: no line may turn the panel back.
@@ -66,7 +54,7 @@ fn carried_to(p: Panel, depth: u64) -> Section
 {
     let directions = p.directions;
     let thicknesses = p.thicknesses;
-    let end = lesser(depth, total_thickness(thicknesses, p.count) as u64);
+    let end = depth.min(u64::from(total_thickness(thicknesses, p.count)));
     let mut c = carried_at_start(&directions, &thicknesses, p.count);
     while c.depth < end {
         c = deeper(c, &directions, &thicknesses, p.count);
@@ -80,7 +68,7 @@ fn carried_answer(p: Panel, depth: u32) -> SectionAnswer {
         return SectionAnswer::Refused(n);
     }
     let exposed = shown(p);
-    let s = carried_to(exposed, depth as u64);
+    let s = carried_to(exposed, u64::from(depth));
     SectionAnswer::At(
         s,
         section_passes(factor_of(exposed.bond), exposed.moment, exposed.strength, s),
@@ -88,9 +76,9 @@ fn carried_answer(p: Panel, depth: u32) -> SectionAnswer {
 }
 
 pub fn answer_carried(rt: &impl Print, line: &[u8]) -> io::Result<()> {
-    let depth = number(first_word(line));
-    let rest = after_word(line);
+    let (depth, rest) = split_word(line);
+    let (record, name) = split_word(rest);
     output::text(rt, b"carried ")?;
-    print_answer(rt, carried_answer(panel_of(first_word(rest)), depth))?;
-    output::end_line(rt, after_word(rest))
+    print_answer(rt, carried_answer(panel_of(record), number(depth)))?;
+    output::end_line(rt, name)
 }

@@ -4,12 +4,12 @@ use crate::records::panel_of;
 use layers::LayerAnswer;
 use panel::Panel;
 use std::io;
-use test_lines::input::{after_word, first_word};
+use test_lines::input::split_word;
 use test_lines::output;
 
 fn print_ei(rt: &impl Print, answer: LayerAnswer) -> io::Result<()> {
     match answer {
-        LayerAnswer::Value(minutes) => output::number(rt, minutes as u64),
+        LayerAnswer::Value(minutes) => print!(rt; "{minutes}"),
         LayerAnswer::Refused(n) => output::refused(rt, n),
     }
 }
@@ -18,8 +18,7 @@ fn print_sum(rt: &impl Print, p: Panel) -> io::Result<()> {
     let answer = layers::calls::ei_sum(p);
     match answer {
         LayerAnswer::Value(sum) => {
-            output::number(rt, sum as u64)?;
-            output::text(rt, b" EI ")?;
+            print!(rt; "{sum} EI ")?;
             print_ei(rt, layers::calls::ei(p))
         }
         LayerAnswer::Refused(n) => output::refused(rt, n),
@@ -27,7 +26,8 @@ fn print_sum(rt: &impl Print, p: Panel) -> io::Result<()> {
 }
 
 pub fn answer(rt: &impl Print, line: &[u8]) -> io::Result<()> {
+    let (record, name) = split_word(line);
     output::text(rt, b"sum ")?;
-    print_sum(rt, panel_of(first_word(line)))?;
-    output::end_line(rt, after_word(line))
+    print_sum(rt, panel_of(record))?;
+    output::end_line(rt, name)
 }

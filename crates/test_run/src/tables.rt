@@ -5,16 +5,15 @@ ghost use Rattle.std.specs.Prelude.{◌≤◌, length};
 
 use crate::records::panel_of;
 use charring::TableAnswer;
-use numbers::sizes::lesser;
 use panel::Panel;
 use std::io;
-use test_lines::input::{after_word, first_word, number};
+use test_lines::input::{number, split_word};
 use test_lines::output;
 
 fn fill_table(p: Panel, out: &mut [u32], space: usize) -> TableAnswer
     requires { space ≤ length out.old }
 {
-    charring::calls::depth_table(p, &mut out[0..space])
+    charring::calls::depth_table(p, &mut out[..space])
 }
 
 fn print_filled(rt: &impl Print, answer: TableAnswer) -> io::Result<()> {
@@ -24,33 +23,15 @@ fn print_filled(rt: &impl Print, answer: TableAnswer) -> io::Result<()> {
     }
 }
 
-fn print_number(rt: &impl Print, n: u64) -> io::Result<()> {
-    output::text(rt, b" ")?;
-    output::number(rt, n)
-}
-
-fn wide(entry: u32) -> u64
-    ensures { result ≤ 4294967295 }
-{
-    entry as u64
-}
-
-fn print_entry(rt: &impl Print, entry: u32) -> io::Result<()> {
-    print_number(rt, wide(entry))
-}
-
 // The sum of the entries, and the sum of each times its place: from the last entry on, what has been summed so far is added up.
-fn print_sums(rt: &impl Print, entries: [u32; 400]) -> io::Result<()> {
+fn print_sums(rt: &impl Print, entries: &[u32; 400]) -> io::Result<()> {
     let mut sum: u64 = 0;
     let mut placed: u64 = 0;
-    let mut i = 400;
-    while 0 < i {
-        i -= 1;
+    for entry in entries.iter().rev() {
         placed += sum;
-        sum += wide(entries[i]);
+        sum += u64::from(*entry);
     }
-    print_number(rt, sum)?;
-    print_number(rt, placed)
+    print!(rt; " {sum} {placed}")
 }
 
 fn print_table(rt: &impl Print, p: Panel, space: usize) -> io::Result<()>
@@ -59,17 +40,19 @@ fn print_table(rt: &impl Print, p: Panel, space: usize) -> io::Result<()>
     let mut entries = [7u32; 400];
     let answer = fill_table(p, &mut entries, space);
     print_filled(rt, answer)?;
-    print_sums(rt, entries)?;
-    print_entry(rt, entries[0])?;
-    print_entry(rt, entries[90])?;
-    print_entry(rt, entries[360])?;
-    print_entry(rt, entries[361])
+    print_sums(rt, &entries)?;
+    for place in [0, 90, 360, 361] {
+        let entry = entries[place];
+        print!(rt; " {entry}")?;
+    }
+    Ok(())
 }
 
 pub fn answer(rt: &impl Print, line: &[u8]) -> io::Result<()> {
-    let space = lesser(number(first_word(line)) as usize, 400);
-    let rest = after_word(line);
+    let (space, rest) = split_word(line);
+    let (record, name) = split_word(rest);
+    let room = (number(space) as usize).min(400);
     output::text(rt, b"table ")?;
-    print_table(rt, panel_of(first_word(rest)), space)?;
-    output::end_line(rt, after_word(rest))
+    print_table(rt, panel_of(record), room)?;
+    output::end_line(rt, name)
 }

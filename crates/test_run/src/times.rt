@@ -5,50 +5,35 @@ use basic_times::calls::basic_time;
 use basic_times::{Role, TimeAnswer};
 use panel::Material;
 use std::io;
-use test_lines::input::{after_word, first_word, is_word, number16};
+use test_lines::input::{number16, split_word};
 use test_lines::output;
 
 fn print_answer(rt: &impl Print, answer: TimeAnswer) -> io::Result<()> {
     match answer {
-        TimeAnswer::Time(t) => output::number(rt, t as u64),
+        TimeAnswer::Time(t) => print!(rt; "{t}"),
         TimeAnswer::Refused(n) => output::refused(rt, n),
     }
 }
 
-// Prints the time if the line begins with one of the two words; says whether it does.
-fn prints(
-    rt: &impl Print,
-    line: &[u8],
-    protection: &[u8],
-    insulation: &[u8],
-    m: Material,
-    h: u16,
-) -> io::Result<bool> {
-    if is_word(line, protection) {
-        print_answer(rt, basic_time(Role::Protection, m, h))?;
-        return Ok(true);
-    }
-    if is_word(line, insulation) {
-        print_answer(rt, basic_time(Role::Insulation, m, h))?;
-        return Ok(true);
-    }
-    Ok(false)
-}
-
-fn print_time(rt: &impl Print, line: &[u8], h: u16) -> io::Result<()> {
-    let gypsum = prints(rt, line, b"bp", b"bi", Material::Gypsum, h)?;
-    let wood = prints(rt, line, b"lp", b"li", Material::Wood, h)?;
-    let osb = prints(rt, line, b"op", b"oi", Material::Osb, h)?;
-    let particle_board = prints(rt, line, b"pp", b"pi", Material::ParticleBoard, h)?;
-    if !(gypsum | wood | osb | particle_board) {
-        output::text(rt, b"unknown")?;
-    }
-    Ok(())
+fn print_time(rt: &impl Print, kind: &[u8], h: u16) -> io::Result<()> {
+    let (role, material) = match kind {
+        b"bp" => (Role::Protection, Material::Gypsum),
+        b"bi" => (Role::Insulation, Material::Gypsum),
+        b"lp" => (Role::Protection, Material::Wood),
+        b"li" => (Role::Insulation, Material::Wood),
+        b"op" => (Role::Protection, Material::Osb),
+        b"oi" => (Role::Insulation, Material::Osb),
+        b"pp" => (Role::Protection, Material::ParticleBoard),
+        b"pi" => (Role::Insulation, Material::ParticleBoard),
+        _ => return output::text(rt, b"unknown"),
+    };
+    print_answer(rt, basic_time(role, material, h))
 }
 
 pub fn answer(rt: &impl Print, line: &[u8]) -> io::Result<()> {
-    let rest = after_word(line);
+    let (kind, rest) = split_word(line);
+    let (h, name) = split_word(rest);
     output::text(rt, b"time ")?;
-    print_time(rt, line, number16(first_word(rest)))?;
-    output::end_line(rt, after_word(rest))
+    print_time(rt, kind, number16(h))?;
+    output::end_line(rt, name)
 }

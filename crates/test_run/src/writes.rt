@@ -3,25 +3,21 @@
 ghost use Rattle.std.specs.Prelude.{◌≤◌, length};
 
 use crate::records::panel_of;
-use numbers::sizes::lesser;
 use panel::Panel;
 use record::Writing;
 use std::io;
-use test_lines::input::{after_word, first_word, number};
+use test_lines::input::{number, split_word};
 use test_lines::output;
 
 fn write_into(p: Panel, out: &mut [u8], space: usize) -> Writing
     requires { space ≤ length out.old }
 {
-    record::calls::write(p, &mut out[0..space])
+    record::calls::write(p, &mut out[..space])
 }
 
 fn print_answer(rt: &impl Print, answer: Writing) -> io::Result<()> {
     match answer {
-        Writing::Written(k) => {
-            output::text(rt, b"written ")?;
-            output::number(rt, k as u64)
-        }
+        Writing::Written(k) => { print!(rt; "written {k}") }
         Writing::Refused(n) => output::refused(rt, n),
     }
 }
@@ -37,9 +33,10 @@ fn print_writing(rt: &impl Print, p: Panel, space: usize) -> io::Result<()>
 }
 
 pub fn answer(rt: &impl Print, line: &[u8]) -> io::Result<()> {
-    let space = lesser(number(first_word(line)) as usize, 64);
-    let rest = after_word(line);
+    let (space, rest) = split_word(line);
+    let (record, name) = split_word(rest);
+    let room = (number(space) as usize).min(64);
     output::text(rt, b"write ")?;
-    print_writing(rt, panel_of(first_word(rest)), space)?;
-    output::end_line(rt, after_word(rest))
+    print_writing(rt, panel_of(record), room)?;
+    output::end_line(rt, name)
 }

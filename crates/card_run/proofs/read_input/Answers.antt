@@ -4,5 +4,5 @@ use Rattle.fire_card.proofs.Prints.{printed_first}
 use Rattle.fire_card.specs.Printed.{printed_text}
 use Rattle.card_run.proofs.read_input.Goals as goal
 
-pub returns-after-loop-n-clause-speaks_for_all : goal.returns-after-loop-n-clause-speaks_for_all
-returns-after-loop-n-clause-speaks_for_all g c = λ input e. ap printed_text e ∙ printed_first input (length c.args.space.now) c.requires
+pub returns-clause-speaks_for_all : goal.returns-clause-speaks_for_all
+returns-clause-speaks_for_all g c = λ input e. ap printed_text e ∙ printed_first input (length c.args.space.now) c.requires

@@ -1,15 +1,30 @@
 -- `fire_card::calls::deliver` meets its contract: a text that does not fit changes nothing. Assumes nothing.
-use Rattle.fire_card.proofs.Texts.{text_short, text_fits}
+use Rattle.std.proofs.Common.{◌≤◌, length, drop, List, [], ℕ, ◌++◌, refl, sym, ap, ◌∙◌}
+use Rattle.std.proofs.lemmas.Result.{err_from_is_err_and}
+use Rattle.fire_card.proofs.Texts.{text_refused_so, text_fits}
+use Rattle.fire_card.specs.Answers.{text_refusal}
+use Rattle.limits.proofs.FirstLine.{refused_with, call_line, not_fitting}
+use Rattle.limits.specs.declared.refusal.Refusal.TheVariants.{Space}
+use borrow.Author.Tests.{ltb-false}
+use lib.Dec.{ltb}
 use Rattle.fire_card.proofs.calls.deliver.Goals as goal
 
-pub returns-then-out-n : goal.returns-then-out-n
-returns-then-out-n c =
-    let a = c.args in
-    let both = text_short a.text.now a.out.now c.if-out-n.true in
-    record { value = both.0; out_after = both.1 }
+pub returns-in_err-refuse_if : goal.returns-in_err-refuse_if
+unfolding text_refusal
+returns-in_err-refuse_if c =
+    let text = c.args.text.now in
+    let space = c.args.out.now in
+    let p = err_from_is_err_and c.from_residual.result c.from_residual.ensures.1 in
+    let h = refused_with tt (call_line [] tt refl (ltb (length space) (length text)) Space c.in_err-refuse_if.ensures) in
+    let both = text_refused_so [] text space h.0 (λ z. h.1 (sym h.0 ∙ z)) in
+    record { value = rw (p.1, p.2) both.0; out_after = both.1 }
 
 pub returns : goal.returns
 returns c =
-    let a = c.args in
-    let both = text_fits a.text.now a.out.now c.put_bytes.new.out c.if-out-n.false c.put_bytes.ensures in
-    record { value = both.0; out_after = both.1 }
+    let text = c.args.text.now in
+    let space = c.args.out.now in
+    let room = ltb-false (length space) (length text) (not_fitting (ltb (length space) (length text)) Space c.in_ok-refuse_if.ensures) in
+    let both = text_fits text space room in record {
+      value = both.0;
+      out_after = ap (λ (front : List ℕ). front ++ drop (length text) space) c.copy_from_slice.ensures.after ∙ both.1;
+    }

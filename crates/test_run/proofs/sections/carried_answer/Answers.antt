@@ -36,5 +36,5 @@ pub section_passes-requires-clause-section_bounds :
 section_passes-requires-clause-section_bounds c =
     let fire = c.shown-exposed.result in
     let fits = accepted_fits fire (fire_accepted c.args.p fire c.panel_refusal-n.ensures c.if-n-ne0.false c.shown-exposed.ensures) in
-    let depth = min c.args.depth (thickness (lamellae fire)) in
+    let depth = min c.from.result (thickness (lamellae fire)) in
     rw c.carried_to-s.ensures (counted_bounds depth (lamellae fire) fits.thickness, nothing_cut depth (lamellae fire))
