@@ -10,13 +10,11 @@ use crate::records::panel_of;
 use limits::SectionAnswer;
 use limits::calls::panel_refusal;
 use limits::causes::total_thickness;
-use numbers::words64::lesser;
 use panel::Panel;
 use panel::faces::shown;
-use panel::timber::factor_of;
 use section::Section;
 use section::carry::{carried_at_start, deeper};
-use section::test::section_passes;
+use section::test::DesignValues;
 use std::io;
 use test_lines::input::{after_word, first_word, number};
 use test_lines::output;
@@ -64,12 +62,11 @@ fn carried_to(p: Panel, depth: u64) -> Section
     requires { panel_refusal p ≡ 0 }
     ensures { result ≡ section_at p (min depth (thickness (lamellae p))) }
 {
-    let directions = p.directions;
-    let thicknesses = p.thicknesses;
-    let end = lesser(depth, total_thickness(thicknesses, p.count) as u64);
-    let mut c = carried_at_start(&directions, &thicknesses, p.count);
+    let lamellae = p.lamellae();
+    let end = depth.min(u64::from(total_thickness(lamellae)));
+    let mut c = carried_at_start(lamellae);
     while c.depth < end {
-        c = deeper(c, &directions, &thicknesses, p.count);
+        c = deeper(c, lamellae);
     }
     c.section
 }
@@ -83,7 +80,7 @@ fn carried_answer(p: Panel, depth: u32) -> SectionAnswer {
     let s = carried_to(exposed, depth as u64);
     SectionAnswer::At(
         s,
-        section_passes(factor_of(exposed.bond), exposed.moment, exposed.strength, s),
+        DesignValues::of(&exposed).section_passes(s),
     )
 }
 
