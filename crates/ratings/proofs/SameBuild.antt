@@ -1,4 +1,5 @@
 -- Panels that `same_build` calls the same share depth table, phases, layer times and EI.
+use Rattle.std.specs.Prelude.{Ok, true}
 use mathlib.Core.Path.{◌≡◌, ap}
 use Rattle.panel.specs.declared.Panel.{Panel}
 use Rattle.panel.specs.Builds.{SameBuild}
@@ -23,7 +24,7 @@ fire_shares a b h =
       layers = layers.layers_shared a b h;
     }
 
-pub same_build_shares : (a b : Panel) → build_answer a b ≡ Same → Shared a b
+pub same_build_shares : (a b : Panel) → build_answer a b ≡ Ok true → Shared a b
 unfolding graded
 same_build_shares a b e =
     let both = (same_when a b).0 e in

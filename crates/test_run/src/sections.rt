@@ -12,10 +12,9 @@ use limits::calls::panel_refusal;
 use limits::causes::total_thickness;
 use panel::Panel;
 use panel::faces::shown;
-use panel::timber::factor_of;
 use section::Section;
 use section::carry::{carried_at_start, deeper};
-use section::test::section_passes;
+use section::test::DesignValues;
 use std::io;
 use test_lines::input::{number, split_word};
 use test_lines::output;
@@ -52,12 +51,11 @@ fn carried_to(p: Panel, depth: u64) -> Section
     requires { panel_refusal p ≡ 0 }
     ensures { result ≡ section_at p (min depth (thickness (lamellae p))) }
 {
-    let directions = p.directions;
-    let thicknesses = p.thicknesses;
-    let end = depth.min(u64::from(total_thickness(thicknesses, p.count)));
-    let mut c = carried_at_start(&directions, &thicknesses, p.count);
+    let lamellae = p.lamellae();
+    let end = depth.min(u64::from(total_thickness(lamellae)));
+    let mut c = carried_at_start(lamellae);
     while c.depth < end {
-        c = deeper(c, &directions, &thicknesses, p.count);
+        c = deeper(c, lamellae);
     }
     c.section
 }
@@ -71,7 +69,7 @@ fn carried_answer(p: Panel, depth: u32) -> SectionAnswer {
     let s = carried_to(exposed, u64::from(depth));
     SectionAnswer::At(
         s,
-        section_passes(factor_of(exposed.bond), exposed.moment, exposed.strength, s),
+        DesignValues::of(&exposed).section_passes(s),
     )
 }
 

@@ -16,4 +16,4 @@ returns-in_err-accepted c =
 
 pub returns : goal.returns
 unfolding graded accepted_answer
-returns c = worked_out (panel_refusal c.args.p) ei_grade c.args.p c.in_ok-accepted.ensures (c.of.ensures ∙ ap grade_of c.ei_minute_of-ei.ensures.0 ∙ ap ei_grade c.panel.ensures.panel)
+returns c = worked_out (panel_refusal c.args.p) ei_grade c.args.p c.in_ok-accepted.ensures (c.of-2.ensures ∙ ap grade_of c.ei_minute_of-ei.ensures.0 ∙ ap ei_grade c.panel.ensures.panel)

@@ -18,7 +18,7 @@ returns-in_err-accepted c =
 
 pub returns : goal.returns
 unfolding graded accepted_answer
-returns c = worked_out (panel_refusal c.args.p) load_grade c.args.p c.in_ok-accepted.ensures (c.of.ensures ∙ ap grade_of c.load_minute_of-load.ensures ∙ ap load_grade c.panel.ensures.panel)
+returns c = worked_out (panel_refusal c.args.p) load_grade c.args.p c.in_ok-accepted.ensures (c.of-2.ensures ∙ ap grade_of c.load_minute_of-load.ensures ∙ ap load_grade c.panel.ensures.panel)
 
-pub of-requires : goal.of-requires
-of-requires c = subst (λ (m : ℕ). m ≤ 360) (sym c.load_minute_of-load.ensures) (printed_most c.panel.result)
+pub of-requires-2 : goal.of-requires-2
+of-requires-2 c = subst (λ (m : ℕ). m ≤ 360) (sym c.load_minute_of-load.ensures) (printed_most c.panel.result)

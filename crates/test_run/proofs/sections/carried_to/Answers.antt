@@ -1,18 +1,32 @@
--- A panel that no line turns back keeps what the carrying asks of its arrays.
+-- A panel that no line turns back keeps what the carrying asks of its lamellae.
+use Rattle.std.proofs.Common.{◌≡◌, List, subst, ap, arith}
 use Rattle.limits.proofs.Accepted.{accepted_fits}
 use Rattle.limits.proofs.Carried.{accepted_thick}
-use Rattle.section.proofs.Lent.{own_arrays}
-use Rattle.std.proofs.Common.{rules}
+use Rattle.limits.specs.Refusals.{panel_refusal}
+use Rattle.panel.specs.Lamellae.{Lamella, lamellae, thickness}
+use Rattle.panel.specs.declared.Panel.{Panel}
+use Rattle.section.specs.Carrying.{CarriedAt, LamellaeFit}
+use Rattle.section.specs.declared.Carried.{Carried}
 use Rattle.test_run.proofs.sections.carried_to.Goals as goal
 
-pub total_thickness-requires : goal.total_thickness-requires
-total_thickness-requires c = (accepted_fits c.args.p c.requires).count
+fits : (p : Panel) → panel_refusal p ≡ 0 → LamellaeFit (lamellae p)
+fits p e = record { thickness = (accepted_fits p e).thickness; each = accepted_thick p e }
+
+-- what is carried along the panel's lamellae, lent
+carried_in : (p : Panel) (c : Carried) (ls : List Lamella) → ls ≡ lamellae p → CarriedAt ls c → CarriedAt (lamellae p) c
+carried_in p c ls e h = subst (λ (ms : List Lamella). CarriedAt ms c) e h
+
+pub lamellae-lamellae-requires : goal.lamellae-lamellae-requires
+lamellae-lamellae-requires c = (accepted_fits c.args.p c.requires).count
 
 pub carried_at_start-c-requires : goal.carried_at_start-c-requires
-carried_at_start-c-requires c =
-    own_arrays c.args.p (accepted_fits c.args.p c.requires) (accepted_thick c.args.p c.requires) (search rules) (search rules)
+carried_at_start-c-requires c = rw c.lamellae-lamellae.ensures (fits c.args.p c.requires)
 
-pub deeper-c-requires-clause-lamellae_fit : goal.deeper-c-requires-clause-lamellae_fit
-deeper-c-requires-clause-lamellae_fit c =
-    let fits = own_arrays c.args.p (accepted_fits c.args.p c.requires) (accepted_thick c.args.p c.requires) (search rules) (search rules) in
-    (fits, c.loop-c.invariant.0)
+pub loop-c-init : goal.loop-c-init
+loop-c-init c = ?
+
+pub deeper-c-requires : goal.deeper-c-requires
+deeper-c-requires c = ?
+
+pub loop-c-preserved : goal.loop-c-preserved
+loop-c-preserved c = ?
