@@ -9,8 +9,7 @@ use mir.Syntax.{w32}
 use mir.Val.{SFits, to_z}
 use mir.Facts.{to_z_pos}
 use Rattle.limits.specs.Lines.{Line, answer}
-use Rattle.fire_card.specs.declared.CardAnswer.{CardAnswer}
-use Rattle.fire_card.specs.declared.CardAnswer.TheVariants.{Written, Refused}
+use Rattle.std.specs.Prelude.{Result, Ok, Err}
 use Rattle.fire_card.specs.Card.{card_most}
 use Rattle.fire_card.specs.Answers.{text_refusal, text_answer}
 use Rattle.card_c.specs.Exported.{exported, Short}
@@ -20,21 +19,21 @@ pub short_text : (table : List Line) (text space : List ℕ) → length text ≤
 unfolding text_answer
 short_text table text space h = go (text_refusal table text space)
   where
-    go : (n : ℕ) → Short (answer n Refused (Written (length text)))
+    go : (n : ℕ) → Short (answer n Err (Ok (length text)))
     go zero = h
     go (suc n) = tt
 
 -- and so are its bytes
-pub short_bytes : (a : CardAnswer) (k : ℕ) → Short a → a ≡ Written k → k ≤ card_most
+pub short_bytes : (a : Result ℕ ℕ) (k : ℕ) → Short a → a ≡ Ok k → k ≤ card_most
 short_bytes a k h e = subst Short e h
 
 -- a number that is not negative is that of bytes written
-pub written_bytes : (table : List Line) (text space : List ℕ) (k : ℕ) → exported (text_answer table text space) ≡ pos k → text_answer table text space ≡ Written k
+pub written_bytes : (table : List Line) (text space : List ℕ) (k : ℕ) → exported (text_answer table text space) ≡ pos k → text_answer table text space ≡ Ok k
 unfolding text_answer
 written_bytes table text space k = go (text_refusal table text space)
   where
-    go : (n : ℕ) → exported (answer n Refused (Written (length text))) ≡ pos k → answer n Refused (Written (length text)) ≡ Written k
-    go zero e = let same : length text ≡ k = cc in ap Written same
+    go : (n : ℕ) → exported (answer n Err (Ok (length text))) ≡ pos k → answer n Err (Ok (length text)) ≡ Ok k
+    go zero e = let same : length text ≡ k = cc in ap Ok same
     go (suc n) e = absurd (let z : ◌≡◌ {A = ℕ} 0 1 = cc in let w : ⊥ = omega arith in w)
 
 -- a refusal's number taken from 0, as the machine takes it

@@ -3,21 +3,22 @@
 #![tactic(auto)]
 
 ghost use Rattle.std.specs.Prelude.{◌≡◌};
+ghost use Rattle.limits.specs.Numbers.{by_number};
 ghost use Rattle.fire_card.specs.Answers.{card_answer, card_after, refusal_answer, refusal_after};
 ghost use Rattle.card_c.specs.Exported.{exported, Short};
 ghost use Rattle.card_c.specs.Planing.{record_planing, exported_cut};
 
-use fire_card::CardAnswer;
-use planing::PlaningAnswer;
+use limits::refusal::Refusal;
+use planing::Cut;
 
 // An answer as one number. No open call: the bytes written must be those of a card at most.
-fn number_of(answer: CardAnswer) -> i32
-    requires { Short answer }
-    ensures { result ≡ exported answer }
+fn number_of(answer: Result<usize, Refusal>) -> i32
+    requires { Short (by_number answer) }
+    ensures { result ≡ exported (by_number answer) }
 {
     match answer {
-        CardAnswer::Written(k) => k as i32,
-        CardAnswer::Refused(n) => -(n as i32),
+        Ok(k) => k as i32,
+        Err(refusal) => -i32::from(u8::from(refusal)),
     }
 }
 
@@ -38,27 +39,21 @@ pub fn yurbantse_refusal(n: u8, out: &mut [u8]) -> i32
 }
 
 // The least cut of the panel that stands in a record.
-fn planing_of(bytes: &[u8]) -> PlaningAnswer
-    ensures { result ≡ record_planing bytes.now }
+fn planing_of(bytes: &[u8]) -> Result<Option<Cut>, Refusal>
+    ensures { by_number result ≡ record_planing bytes.now }
 {
-    let reading = record::calls::read(bytes);
-    if reading.refusal != 0 {
-        return PlaningAnswer::Refused(reading.refusal);
-    }
-    let panel = reading.panel;
-    planing::calls::planing(panel)
+    let accepted = record::calls::read(bytes)?;
+    planing::calls::planing(accepted.panel())
 }
 
 // An answer as one number.
-fn cut_number(answer: PlaningAnswer) -> i32
-    ensures { result ≡ exported_cut answer }
+fn cut_number(answer: Result<Option<Cut>, Refusal>) -> i32
+    ensures { result ≡ exported_cut (by_number answer) }
 {
     match answer {
-        PlaningAnswer::PlaceAndTenths(place, tenths) => {
-            (1000 * (place as u32) + tenths as u32) as i32
-        }
-        PlaningAnswer::NoCut => 0,
-        PlaningAnswer::Refused(n) => -(n as i32),
+        Ok(Some(cut)) => (1000 * u32::from(cut.place) + u32::from(cut.tenths)) as i32,
+        Ok(None) => 0,
+        Err(refusal) => -i32::from(u8::from(refusal)),
     }
 }
 

@@ -4,16 +4,14 @@ ghost use Rattle.fire_card.specs.Card.{card_most, refusal_text};
 ghost use Rattle.fire_card.specs.Printed.{printed_text};
 ghost use Rattle.lent_input.specs.Counts.{IsPrefixLen};
 
-use fire_card::CardAnswer;
-
 fn refusal_into(n: u8, out: &mut [u8]) -> usize
     requires { card_most ≤ length out.old }
     ensures prefix_len { IsPrefixLen result out.new }
     ensures out_after { take result out.new ≡ refusal_text n }
 {
     match fire_card::calls::refusal(n, out) {
-        CardAnswer::Written(k) => k,
-        CardAnswer::Refused(_) => 0,
+        Ok(k) => k,
+        Err(_) => 0,
     }
 }
 
@@ -24,7 +22,7 @@ pub fn text_for(bytes: &[u8], out: &mut [u8]) -> usize
     ensures out_after { take result out.new ≡ printed_text bytes.now }
 {
     match fire_card::calls::card(bytes, out) {
-        CardAnswer::Written(k) => k,
-        CardAnswer::Refused(n) => refusal_into(n, out),
+        Ok(k) => k,
+        Err(refusal) => refusal_into(u8::from(refusal), out),
     }
 }

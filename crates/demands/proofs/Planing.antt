@@ -3,13 +3,13 @@ use Prim.Native.Nat.{ℕ, zero, suc, ◌+◌, ◌*◌, ◌/◌, ◌%◌, ◌<◌
 use mathlib.Core.Path.{◌≡◌, sym, ap, subst}
 use mathlib.Core.List.{List}
 use native.Mathlib.Omega.{arith}
+use Rattle.std.specs.Prelude.{Option, Some, None, Ok, Err}
+use Rattle.planing.specs.declared.Cut.{Cut}
 use Rattle.panel.specs.declared.Panel.{Panel}
 use Rattle.limits.specs.Refusals.{panel_refusal}
 use Rattle.limits.proofs.FirstLine.{answered}
 use Rattle.record.specs.Layouts.{panel_of}
 use Rattle.record.proofs.Sound.{record_panel}
-use Rattle.planing.specs.declared.PlaningAnswer.{PlaningAnswer}
-use Rattle.planing.specs.declared.PlaningAnswer.TheVariants.{PlaceAndTenths, NoCut, Refused}
 use Rattle.planing.specs.LeastCut.{IsLeastCut, IsPlaning}
 use Rattle.planing.specs.Answers.{planing_of}
 use Rattle.planing.proofs.CutPanels.{allowed_within}
@@ -30,14 +30,13 @@ read_off p place tenths e h =
     says (suc n) some thousands rest = subst (IsLeastCut p) (λ i. record { place = sym thousands i; tenths = sym rest i }) h
     says zero some thousands rest = elim some [ ]
 
-of_answer : (b : List ℕ) (a : PlaningAnswer) → record_planing b ≡ a → panel_refusal (panel_of b) ≡ 0 → IsPlaning (panel_of b) a → PlaningOf b
-of_answer b (PlaceAndTenths place tenths) same e h =
-    record { number = 1000 * place + tenths; answered = ap exported_cut same; says = read_off (panel_of b) place tenths e h }
-of_answer b NoCut same e h = record { number = 0; answered = ap exported_cut same; says = h }
-of_answer b (Refused _) same e h = elim h [ ]
+of_answer : (b : List ℕ) (a : Option Cut) → record_planing b ≡ Ok a → panel_refusal (panel_of b) ≡ 0 → IsPlaning (panel_of b) a → PlaningOf b
+of_answer b (Some c) same e h =
+    record { number = 1000 * c.place + c.tenths; answered = ap exported_cut same; says = read_off (panel_of b) c.place c.tenths e h }
+of_answer b None same e h = record { number = 0; answered = ap exported_cut same; says = h }
 
 pub planing_of_c : PlaningOfC
 unfolding record_planing
 planing_of_c b e =
     let accepted = record_panel b e in
-    of_answer b (planing_of (panel_of b)) (sym (answered _ Refused (planing_of (panel_of b)) e)) accepted (planing_is (panel_of b) accepted)
+    of_answer b (planing_of (panel_of b)) (sym (answered _ Err (Ok (planing_of (panel_of b))) e)) accepted (planing_is (panel_of b) accepted)

@@ -1,6 +1,6 @@
 -- Demand 3 of the user, sentence by sentence, with what document 02, 3/14, says of it for several fires. A time is n/q
 -- minutes, q not 0; two times are compared by multiplying out.
-use Rattle.std.specs.Prelude.{ℕ, suc, ◌*◌, ◌≤◌, ◌<◌, ◌≡◌, List, ◌⊎◌, ◌↔◌, pos, take}
+use Rattle.std.specs.Prelude.{Ok, ℕ, suc, ◌*◌, ◌≤◌, ◌<◌, ◌≡◌, List, ◌⊎◌, ◌↔◌, pos, take}
 use Rattle.panel.specs.declared.Panel.{Panel}
 use Rattle.panel.specs.Faces.{fires, InEvery, least_of}
 use Rattle.record.specs.Layouts.{panel_of}
@@ -9,7 +9,6 @@ use Rattle.load.specs.Failure.{TimePasses, EveryFirePasses, PassesUpTo, NotAbove
 use Rattle.load.specs.LoadMinute.{load_minute}
 use Rattle.load.specs.Exposure.{NotEnlarged}
 use Rattle.card_text.specs.Text.{after, first_number}
-use Rattle.fire_card.specs.declared.CardAnswer.TheVariants.{Written}
 use Rattle.fire_card.specs.Answers.{card_answer, card_after}
 use Rattle.fire_card.specs.Printed.{printed_text}
 use Rattle.card_c.specs.Exported.{exported}
@@ -55,7 +54,7 @@ Demand3 = (b : List ℕ) → record_refusal b ≡ 0 → Demanded (panel_of b) (p
 -- then stands in the first k bytes of the space
 abbrev pub Demand3OfCall : Type 0
 Demand3OfCall =
-    (b space : List ℕ) (k : ℕ) → card_answer b space ≡ Written k → Demanded (panel_of b) (printed_minute (take k (card_after b space)))
+    (b space : List ℕ) (k : ℕ) → card_answer b space ≡ Ok k → Demanded (panel_of b) (printed_minute (take k (card_after b space)))
 
 -- and where the function for C answers k, 0 or above
 abbrev pub Demand3OfC : Type 0

@@ -1,6 +1,6 @@
 -- Document 02, 5/14, sentence by sentence, as demand 3 is stated: the failure time in whole minutes and seconds. A time is n/q minutes, q
 -- not 0; two times are compared by multiplying out.
-use Rattle.std.specs.Prelude.{ℕ, suc, ◌+◌, ◌*◌, ◌≤◌, ◌<◌, ◌≡◌, List, ◌⊎◌, ◌↔◌, pos, take}
+use Rattle.std.specs.Prelude.{Ok, ℕ, suc, ◌+◌, ◌*◌, ◌≤◌, ◌<◌, ◌≡◌, List, ◌⊎◌, ◌↔◌, pos, take}
 use Rattle.panel.specs.declared.Panel.{Panel}
 use Rattle.panel.specs.Faces.{fires, InEvery, least_of}
 use Rattle.record.specs.Layouts.{panel_of}
@@ -8,7 +8,6 @@ use Rattle.record.specs.Refusals.{record_refusal}
 use Rattle.load.specs.Failure.{TimePasses, EveryFirePasses, PassesUpTo, NotAboveFailure, AboveFailure}
 use Rattle.load.specs.LoadMinute.{load_seconds, minutes_in, seconds_over}
 use Rattle.card_text.specs.Text.{after, first_number, number_after_colon}
-use Rattle.fire_card.specs.declared.CardAnswer.TheVariants.{Written}
 use Rattle.fire_card.specs.Answers.{card_answer, card_after}
 use Rattle.fire_card.specs.Printed.{printed_text}
 use Rattle.card_c.specs.Exported.{exported}
@@ -59,7 +58,7 @@ PrintedTime = (b : List ℕ) → record_refusal b ≡ 0 → OfCard (panel_of b) 
 -- then stand in the space
 abbrev pub PrintedTimeOfCall : Type 0
 PrintedTimeOfCall =
-    (b space : List ℕ) (k : ℕ) → card_answer b space ≡ Written k → OfCard (panel_of b) (take k (card_after b space))
+    (b space : List ℕ) (k : ℕ) → card_answer b space ≡ Ok k → OfCard (panel_of b) (take k (card_after b space))
 
 -- and where the function for C answers k, 0 or above
 abbrev pub PrintedTimeOfC : Type 0

@@ -17,7 +17,8 @@ use Rattle.limits.specs.Causes.{bad_count, bad_lamella, bad_lamellae, none_along
 use Rattle.limits.specs.Refusals.{panel_lines, panel_refusal, refusal_to12}
 use Rattle.limits.proofs.FirstLine.{accepted_iff}
 use Rattle.limits.proofs.Accepted.{accepted_cause, section_decides}
-use Rattle.planing.specs.Cuts.{Cut, thickness_at, thinned, cut_panel, least_kept, allowed}
+use Rattle.planing.specs.declared.Cut.{Cut}
+use Rattle.planing.specs.Cuts.{thickness_at, thinned, cut_panel, least_kept, allowed}
 use Rattle.planing.proofs.Thinned.{thinned_length, thinned_thickness, thinned_along, thinned_good, place_within, thickness_most}
 
 -- what is allowed, as inequalities

@@ -9,14 +9,14 @@ use native.Mathlib.Decide.{dec_lt}
 use native.Mathlib.Nat.{le_antisymm}
 use borrow.Author.Tests.{ltb-true, ltb-false, lt-ltb}
 use lib.Dec.{ltb}
+use Rattle.std.specs.Prelude.{Option, Some, None, Ok}
 use Rattle.numbers.proofs.Booleans.{and_left, and_right, not_both}
 use Rattle.numbers.proofs.LeastKept.{least_keeps, least_before}
 use Rattle.panel.specs.declared.Panel.{Panel}
 use Rattle.limits.specs.Refusals.{panel_refusal}
 use Rattle.ratings.specs.Answers.{rei_grade}
-use Rattle.planing.specs.declared.PlaningAnswer.{PlaningAnswer}
-use Rattle.planing.specs.declared.PlaningAnswer.TheVariants.{PlaceAndTenths, NoCut}
-use Rattle.planing.specs.Cuts.{Cut, cut_panel, allowed, lowers}
+use Rattle.planing.specs.declared.Cut.{Cut}
+use Rattle.planing.specs.Cuts.{cut_panel, allowed, lowers}
 use Rattle.planing.specs.LeastCut.{NearerOn, LoweringCut, IsLeastCut, NoneLowers, IsPlaning}
 use Rattle.planing.specs.Answers.{place_on, cut_behind, lowering, first_behind, most_cut, least_tenths, planing_if, planing_of, planing_answer}
 use Rattle.planing.proofs.CutPanels.{cut_meets, allowed_within}
@@ -104,9 +104,9 @@ module _ (p : Panel) (e : panel_refusal p ≡ 0) where
       go false h = none_lowers (ltb-false (least_tenths p) (suc most_cut) h)
 
   -- as it is answered
-  pub answer_is : IsPlaning p (planing_answer p)
+  pub answer_is : (found : Option Cut) × ((planing_answer p ≡ Ok found) × IsPlaning p found)
   unfolding planing_answer
-  answer_is = rw e planing_is
+  answer_is = (planing_of p, (rw e refl, planing_is))
 
   -- the grade of the cut panel that an answer names is below the panel's, or it meets 13
   pub grade_falls : (c : Cut) → IsLeastCut p c
@@ -119,13 +119,11 @@ module _ (p : Panel) (e : panel_refusal p ≡ 0) where
       go (inr thirteen) low = inl thirteen
 
 -- there is one such answer
-pub planing_unique : (p : Panel) (a b : PlaningAnswer) → IsPlaning p a → IsPlaning p b → a ≡ b
-planing_unique p (PlaceAndTenths place tenths) (PlaceAndTenths place' tenths') h k =
-    let same : tenths ≡ tenths' = le_antisymm (h.least _ k.lowering) (k.least _ h.lowering) in
-    ap₂ PlaceAndTenths (none_nearer p.face place place' (k.nearest _ h.lowering same) (h.nearest _ k.lowering (sym same))) same
-planing_unique p (PlaceAndTenths place tenths) NoCut h k = absurd (k _ h.lowering)
-planing_unique p NoCut (PlaceAndTenths place tenths) h k = absurd (h _ k.lowering)
-planing_unique p NoCut NoCut h k = refl
-planing_unique p (PlaceAndTenths place tenths) (Rattle.planing.specs.declared.PlaningAnswer.TheVariants.Refused _) h k = elim k [ ]
-planing_unique p NoCut (Rattle.planing.specs.declared.PlaningAnswer.TheVariants.Refused _) h k = elim k [ ]
-planing_unique p (Rattle.planing.specs.declared.PlaningAnswer.TheVariants.Refused _) b h k = elim h [ ]
+pub planing_unique : (p : Panel) (a b : Option Cut) → IsPlaning p a → IsPlaning p b → a ≡ b
+planing_unique p (Some c) (Some d) h k =
+    let same : c.tenths ≡ d.tenths = le_antisymm (h.least _ k.lowering) (k.least _ h.lowering) in
+    ap₂ (λ (place tenths : ℕ). Some (record { place = place; tenths = tenths }))
+    (none_nearer p.face c.place d.place (k.nearest _ h.lowering same) (h.nearest _ k.lowering (sym same))) same
+planing_unique p (Some c) None h k = absurd (k _ h.lowering)
+planing_unique p None (Some d) h k = absurd (h _ k.lowering)
+planing_unique p None None h k = refl

@@ -10,7 +10,7 @@ use borrow.Author.Tests.{lt-ltb, le-ltb}
 use lib.Dec.{ltb}
 use Rattle.numbers.proofs.LeastKept.{least_is}
 use Rattle.panel.specs.declared.Panel.{Panel}
-use Rattle.planing.specs.declared.PlaningAnswer.TheVariants.{PlaceAndTenths, NoCut}
+use Rattle.planing.specs.declared.Cut.{Cut}
 use Rattle.planing.specs.Answers.{place_on, cut_behind, lowering, first_behind, most_cut, least_tenths, planing_of}
 
 -- no lamella can have so many tenths taken off that the grade falls
@@ -29,16 +29,16 @@ module _ (p : Panel) (tenths : ℕ) (before : (k : ℕ) → k < tenths → NoneF
   -- the first amount for which a lamella is found is answered
   pub found_is :
       (place : ℕ) → tenths ≤ most_cut → first_behind p tenths < p.count → place ≡ place_on p.face p.count (first_behind p tenths)
-      → PlaceAndTenths place tenths ≡ planing_of p
+      → Some (record { place = place; tenths = tenths }) ≡ planing_of p
   unfolding planing_of least_tenths
   found_is place most here e =
       let least : least_tenths p ≡ tenths =
       least_is (λ (n : ℕ). ltb (first_behind p n) p.count) (suc most_cut) tenths (omega arith) before
       (λ _. lt-ltb (first_behind p tenths) p.count here) in
-      rw (least, lt-ltb tenths (suc most_cut) (omega arith)) (ap (λ (n : ℕ). PlaceAndTenths n tenths) e)
+      rw (least, lt-ltb tenths (suc most_cut) (omega arith)) (ap (λ (n : ℕ). Some (record { place = n; tenths = tenths })) e)
 
   -- past the last amount none is
-  pub none_is : tenths ≡ suc most_cut → NoCut ≡ planing_of p
+  pub none_is : tenths ≡ suc most_cut → None ≡ planing_of p
   unfolding planing_of least_tenths
   none_is end =
       let least : least_tenths p ≡ suc most_cut =

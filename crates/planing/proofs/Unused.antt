@@ -7,14 +7,14 @@ use Rattle.numbers.specs.Least.{least}
 use Rattle.panel.specs.declared.Panel.{Panel}
 use Rattle.panel.specs.Lamellae.{with_lamellae, cleared, SameUsed}
 use Rattle.panel.proofs.Used.{lamellae_cleared, count_cleared, cleared_same, unused}
-use Rattle.limits.specs.Lines.{answer}
+use Rattle.limits.specs.Lines.{unless_refused}
 use Rattle.limits.proofs.Unused.{refusal_unused}
 use Rattle.layers.proofs.Unused.{printed_ei_same}
 use Rattle.grades.specs.Grades.{rei_of}
 use Rattle.load.proofs.Unused.{printed_load_same}
 use Rattle.ratings.specs.Answers.{rei_grade}
-use Rattle.planing.specs.declared.PlaningAnswer.TheVariants.{Refused}
-use Rattle.planing.specs.Cuts.{Cut, thickness_at, thinned, least_kept, lowered}
+use Rattle.planing.specs.declared.Cut.{Cut}
+use Rattle.planing.specs.Cuts.{thickness_at, thinned, least_kept, lowered}
 use Rattle.planing.specs.Answers.{place_on, lowering, first_behind, most_cut, least_tenths, planing_if, planing_of, planing_answer}
 
 rei_same : (p q : Panel) → SameUsed p q → rei_grade p ≡ rei_grade q
@@ -53,4 +53,4 @@ planing_cleared p =
 
 pub planing_unused : (p q : Panel) → SameUsed p q → planing_answer p ≡ planing_answer q
 unfolding planing_answer
-planing_unused = unused planing_answer (λ p i. answer (refusal_unused (cleared p) p (cleared_same p) i) Refused (planing_cleared p i))
+planing_unused = unused planing_answer (λ p i. unless_refused (refusal_unused (cleared p) p (cleared_same p) i) (planing_cleared p i))

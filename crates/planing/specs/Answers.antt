@@ -1,15 +1,14 @@
 -- What the open call of this crate answers, by a search: by tenths of mm from the least on, and for each from the fire on. That it is what
 -- `IsPlaning` means is a theorem (Planing in proofs/).
-use Rattle.std.specs.Prelude.{ℕ, zero, suc, ◌-◌, Bool, true, false, ◌&&◌, ltb}
+use Rattle.std.specs.Prelude.{ℕ, zero, suc, ◌-◌, Bool, true, false, ◌&&◌, ltb, Option, Some, None, Result}
 use Rattle.numbers.specs.Least.{least}
 use Rattle.panel.specs.declared.Panel.{Panel}
 use Rattle.panel.specs.declared.Material.TheVariants.{Wood}
 use Rattle.panel.specs.Materials.{thickest}
-use Rattle.limits.specs.Lines.{answer}
+use Rattle.limits.specs.Lines.{unless_refused}
 use Rattle.limits.specs.Refusals.{panel_refusal}
-use Rattle.planing.specs.declared.PlaningAnswer.{PlaningAnswer}
-use Rattle.planing.specs.declared.PlaningAnswer.TheVariants.{PlaceAndTenths, NoCut, Refused}
-use Rattle.planing.specs.Cuts.{Cut, least_kept, allowed, lowers}
+use Rattle.planing.specs.declared.Cut.{Cut}
+use Rattle.planing.specs.Cuts.{least_kept, allowed, lowers}
 
 -- the place of the lamella behind so many others as seen from the fire, of `count` lamellae
 abbrev pub place_on : ℕ → ℕ → ℕ → ℕ
@@ -37,13 +36,13 @@ most_cut = thickest Wood - least_kept
 unfoldable pub least_tenths : Panel → ℕ
 least_tenths p = least (λ (tenths : ℕ). ltb (first_behind p tenths) p.count) (suc most_cut)
 
-abbrev pub planing_if : Bool → Cut → PlaningAnswer
-planing_if true c = PlaceAndTenths c.place c.tenths
-planing_if false c = NoCut
+abbrev pub planing_if : Bool → Cut → Option Cut
+planing_if true c = Some c
+planing_if false c = None
 
 -- of an accepted panel
-unfoldable pub planing_of : Panel → PlaningAnswer
+unfoldable pub planing_of : Panel → Option Cut
 planing_of p = planing_if (ltb (least_tenths p) (suc most_cut)) (cut_behind p (least_tenths p) (first_behind p (least_tenths p)))
 
-unfoldable pub planing_answer : Panel → PlaningAnswer
-planing_answer p = answer (panel_refusal p) Refused (planing_of p)
+unfoldable pub planing_answer : Panel → Result (Option Cut) ℕ
+planing_answer p = unless_refused (panel_refusal p) (planing_of p)

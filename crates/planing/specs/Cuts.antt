@@ -1,14 +1,11 @@
--- Document 02, 7/14, "How much may the planer take": a cut of one lamella, and whether it lowers the REI grade.
+-- Document 02, 7/14, "How much may the planer take": a cut, "tenths of mm .. taken off one lamella alone", "named by its place in the
+-- record, from 1", and whether it lowers the REI grade.
 use Rattle.std.specs.Prelude.{ℕ, zero, suc, ◌+◌, ◌-◌, List, [], ◌∷◌, Bool, ◌&&◌, ◌||◌, eqb, leb, ltb}
 use Rattle.panel.specs.declared.Panel.{Panel}
+use Rattle.planing.specs.declared.Cut.{Cut}
 use Rattle.panel.specs.Lamellae.{Lamella, lamella, lamellae, with_lamellae}
 use Rattle.limits.specs.Refusals.{panel_refusal}
 use Rattle.ratings.specs.Answers.{rei_grade}
-
--- "tenths of mm .. taken off one lamella alone"; "The lamella is named by its place in the record, from 1"
-pub record Cut : Type 0 where
-  pub place : ℕ
-  pub tenths : ℕ
 
 -- the thickness of the lamella at a place; 0 where there is none
 unfoldable pub thickness_at : ℕ → List Lamella → ℕ

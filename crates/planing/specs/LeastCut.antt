@@ -1,10 +1,8 @@
 -- Document 02, 7/14: what the answer must be. "Find the smallest number of tenths of mm that, taken off one lamella alone, lowers the
 -- REI grade"; "The answer is none only if no such cut of any lamella lowers the grade, and no smaller cut of any lamella lowers it."
-use Rattle.std.specs.Prelude.{ℕ, zero, suc, ◌≤◌, ◌<◌, ◌≡◌, true}
+use Rattle.std.specs.Prelude.{ℕ, zero, suc, ◌≤◌, ◌<◌, ◌≡◌, true, Option, Some, None}
 use Rattle.panel.specs.declared.Panel.{Panel}
-use Rattle.planing.specs.declared.PlaningAnswer.{PlaningAnswer}
-use Rattle.planing.specs.declared.PlaningAnswer.TheVariants.{PlaceAndTenths, NoCut, Refused}
-use Rattle.planing.specs.Cuts.{Cut}
+use Rattle.planing.specs.declared.Cut.{Cut}
 
 -- "such cut": it is allowed and lowers the grade
 pub record LoweringCut (p : Panel) (c : Cut) : Type 0 where
@@ -29,8 +27,7 @@ pub record IsLeastCut (p : Panel) (c : Cut) : Type 0 where
 abbrev pub NoneLowers : Panel → Type 0
 NoneLowers p = (c : Cut) → LoweringCut p c → ⊥
 
--- what each answer says of an accepted panel, which is not refused
-abbrev pub IsPlaning : Panel → PlaningAnswer → Type 0
-IsPlaning p (PlaceAndTenths place tenths) = IsLeastCut p (record { place = place; tenths = tenths })
-IsPlaning p NoCut = NoneLowers p
-IsPlaning p (Refused n) = ⊥
+-- what each answer says of an accepted panel
+abbrev pub IsPlaning : Panel → Option Cut → Type 0
+IsPlaning p (Some c) = IsLeastCut p c
+IsPlaning p None = NoneLowers p

@@ -11,11 +11,9 @@ pub(crate) const LEAST_KEPT: u16 = 100;
 // No allowed cut takes off more.
 pub(crate) const MOST_CUT: u16 = 500;
 
-// The least cut that lowers the REI grade: the lamella's place in the record, from 1, and the tenths of mm taken off it; or that no cut
-// does; or the refusal's number.
-#[derive(Clone, Copy)]
-pub enum PlaningAnswer {
-    PlaceAndTenths(u8, u16),
-    NoCut,
-    Refused(u8),
+// A cut of one lamella: the lamella's place in the record, from 1, and the tenths of mm taken off it.
+#[derive(Clone, Copy, Debug, PartialEq, Eq)]
+pub struct Cut {
+    pub place: u8,
+    pub tenths: u16,
 }

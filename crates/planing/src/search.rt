@@ -5,7 +5,7 @@ ghost use Rattle.limits.specs.Refusals.{panel_refusal};
 ghost use Rattle.planing.specs.Answers.{first_behind, most_cut, planing_of};
 
 use crate::cuts::{Rated, index_behind};
-use crate::{MOST_CUT, PlaningAnswer};
+use crate::{Cut, MOST_CUT};
 use panel::Panel;
 use ratings::rei::rei_grade_of;
 
@@ -18,7 +18,7 @@ fn first_behind(rated: Rated, tenths: u16) -> Option<usize>
     (0..rated.panel.count).find(|&behind| rated.is_lowering(behind, tenths))
 }
 
-pub(crate) fn least_cut(p: Panel) -> PlaningAnswer
+pub(crate) fn least_cut(p: Panel) -> Option<Cut>
     requires { panel_refusal p ≡ 0 }
     ensures { result ≡ planing_of p }
 {
@@ -28,8 +28,11 @@ pub(crate) fn least_cut(p: Panel) -> PlaningAnswer
     };
     for tenths in 1..=MOST_CUT {
         if let Some(behind) = first_behind(rated, tenths) {
-            return PlaningAnswer::PlaceAndTenths(index_behind(p, behind) as u8 + 1, tenths);
+            return Some(Cut {
+                place: index_behind(p, behind) as u8 + 1,
+                tenths,
+            });
         }
     }
-    PlaningAnswer::NoCut
+    None
 }

@@ -1,14 +1,18 @@
 -- `planing::calls::planing` meets its contract: an accepted panel is searched from its own REI grade. Assumes nothing.
-use Rattle.limits.proofs.FirstLine.{turned_back, let_through}
-use Rattle.planing.specs.Answers.{planing_answer}
-use Rattle.planing.specs.declared.PlaningAnswer.TheVariants.{Refused}
+use Rattle.std.proofs.Common.{Ok, ap, ◌∙◌}
+use Rattle.std.proofs.lemmas.Result.{err_from_is_err_and}
+use Rattle.limits.proofs.FirstLine.{passed_on, worked_out}
+use Rattle.limits.specs.Answers.{accepted_answer}
+use Rattle.limits.specs.Refusals.{panel_refusal}
+use Rattle.planing.specs.Answers.{planing_of, planing_answer}
 use Rattle.planing.proofs.calls.planing.Goals as goal
 
-pub returns-then-n-ne0 : goal.returns-then-n-ne0
-unfolding planing_answer
-returns-then-n-ne0 c = turned_back Refused _ c.panel_refusal-n.ensures c.if-n-ne0.true
+pub returns-in_err-accepted : goal.returns-in_err-accepted
+unfolding planing_answer accepted_answer
+returns-in_err-accepted c =
+    let p = err_from_is_err_and c.from_residual.result c.from_residual.ensures.1 in
+    rw (p.1, p.2) (passed_on (panel_refusal c.args.p) c.args.p (Ok (planing_of c.args.p)) c.in_err-accepted.ensures)
 
 pub returns : goal.returns
-unfolding planing_answer
-returns c =
-    let_through Refused c.panel_refusal-n.ensures c.if-n-ne0.false c.least_cut.ensures
+unfolding planing_answer accepted_answer
+returns c = worked_out (panel_refusal c.args.p) planing_of c.args.p c.in_ok-accepted.ensures (c.least_cut.ensures ∙ ap planing_of c.panel.ensures.panel)

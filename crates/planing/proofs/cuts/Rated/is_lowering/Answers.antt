@@ -12,7 +12,8 @@ use Rattle.planing.proofs.CutPanels.{cut_to12}
 use Rattle.planing.proofs.Lowering.{rei_is_grade}
 use Rattle.planing.proofs.Unused.{lowered_same}
 use Rattle.planing.specs.Answers.{place_on, cut_behind, lowering}
-use Rattle.planing.specs.Cuts.{Cut, cut_panel, least_kept, allowed, lowered}
+use Rattle.planing.specs.declared.Cut.{Cut}
+use Rattle.planing.specs.Cuts.{cut_panel, least_kept, allowed, lowered}
 use Rattle.ratings.specs.Answers.{rei_grade}
 use borrow.Author.Tests.{le-leb, lt-leb}
 use lib.ListN.{get_or}
