@@ -13,7 +13,7 @@ use lib.Dec.{T}
 use Rattle.numbers.specs.Choice.{pick}
 use Rattle.limits.specs.Lines.{Line, refusal, numbered, answer}
 use Rattle.limits.proofs.FirstLine.{turned_above, open_above, open_both, turned_back}
-use Rattle.std.specs.Prelude.{Ok, Err}
+use Rattle.std.specs.Prelude.{Result, Ok, Err}
 use Rattle.fire_card.specs.Answers.{short_line, over, text_refusal, text_answer, text_after}
 
 -- Without a table
@@ -90,5 +90,5 @@ module _ (table : List Line) (text space : List ℕ) where
           let same : n ≡ suc m = refused_same (sym a ∙ sym w) in
           (same ∙ sym e, λ z. suc-ne-zero m (sym same ∙ z))
         where
-          refused_same : {i j : ℕ} → Err i ≡ Err j → i ≡ j
+          refused_same : {i j : ℕ} → ◌≡◌ {A = Result ℕ ℕ} (Err i) (Err j) → i ≡ j
           refused_same x = cc

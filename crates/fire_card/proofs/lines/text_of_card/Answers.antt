@@ -31,3 +31,4 @@ returns c =
     ∙ ap₂ (λ (text : List ℕ) (m : ℕ). text ++ rating_lines m c.load_seconds_of-seconds.result c.ei_minute_of-ei.result) chars load
     ∙ ap₂ (λ (s ei : ℕ). text_line card_head (p.version ∷ []) ++ char_lines (shown p) ++ rating_lines (printed_load p) s ei)
     c.load_seconds_of-seconds.ensures c.ei_minute_of-ei.ensures.0
+    ∙ ap text_of_card c.panel-panel.ensures.panel
