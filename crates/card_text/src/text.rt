@@ -19,7 +19,8 @@ impl<const N: usize> Model for Text<N> {
     ghost invariant = { λ t. t.length ≤ N };
 }
 
-// The digits of a number, to the end of ten bytes. Answers the place of the first.
+// The digits of a number, to the end of ten bytes. Answers the place of the first. By hand, since `write!` was tried and leaves its goal
+// open: it promises the digits only where it answers `Ok`, and no clause of std says that it does.
 fn put_digits(bytes: &mut [u8; 10], n: u32) -> usize
     ensures { (result ≤ 9) × (drop result bytes.new ≡ decimal n) }
 {
