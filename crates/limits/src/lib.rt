@@ -1,5 +1,5 @@
 // Where a record or a panel is turned back: lines 1 to 13 and 16 of the papers' table, and the open calls that need nothing more than
-// a panel that keeps them. Every later call checks its panel by `calls::panel_refusal`.
+// a panel that keeps them. Every later call checks its panel by `check::Accepted`.
 #![tactic(auto)]
 
 mod builds;

@@ -4,6 +4,3 @@
 
 pub mod bytes;
 pub mod search;
-pub mod sizes;
-pub mod words32;
-pub mod words64;

@@ -5,14 +5,6 @@ pub fn text(rt: &impl Print, s: &[u8]) -> io::Result<()> {
     rt.write_all(s)
 }
 
-pub fn number(rt: &impl Print, n: u64) -> io::Result<()> {
-    print!(rt; "{n}")
-}
-
-pub fn refused(rt: &impl Print, n: u8) -> io::Result<()> {
-    print!(rt; "refused {n}")
-}
-
 // Two hexadecimal digits for each byte.
 pub fn hex(rt: &impl Print, s: &[u8]) -> io::Result<()> {
     for byte in s {

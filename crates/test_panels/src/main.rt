@@ -3,149 +3,89 @@
 // minute 0 of `char_depth`, `effective_depth`, `phase` and `depth_table`, 0 for none, and the panel's name.
 #![tactic(auto)]
 
-use charring::{DepthAnswer, PhaseAnswer, TableAnswer};
-use layers::LayerAnswer;
-use limits::{BuildAnswer, SectionAnswer};
+use limits::refusal::Refusal;
 use panel::{Board, Cladding, Panel};
-use record::Writing;
 use section::Section;
 use std::io;
 use test_lines::output;
 
-fn section_refusal(p: Panel) -> u8 {
-    let answer = limits::calls::section(p, 0);
+// The refusal's number, 0 where there is none.
+fn number_of<T: Drop>(answer: Result<T, Refusal>) -> u8 {
     match answer {
-        SectionAnswer::At(_, _) => 0,
-        SectionAnswer::Refused(n) => n,
+        Ok(_) => 0,
+        Err(refusal) => u8::from(refusal),
     }
-}
-
-fn write_refusal(p: Panel) -> u8 {
-    let mut space = [0u8; 64];
-    let answer = record::calls::write(p, &mut space);
-    match answer {
-        Writing::Written(_) => 0,
-        Writing::Refused(n) => n,
-    }
-}
-
-fn build_refusal(a: Panel, b: Panel) -> u8 {
-    let answer = limits::calls::same_build(a, b);
-    match answer {
-        BuildAnswer::Same => 0,
-        BuildAnswer::Different => 0,
-        BuildAnswer::Refused(n) => n,
-    }
-}
-
-fn layer_refusal(answer: LayerAnswer) -> u8 {
-    match answer {
-        LayerAnswer::Value(_) => 0,
-        LayerAnswer::Refused(n) => n,
-    }
-}
-
-fn depth_refusal(answer: DepthAnswer) -> u8 {
-    match answer {
-        DepthAnswer::Depth(_) => 0,
-        DepthAnswer::Refused(n) => n,
-    }
-}
-
-fn phase_refusal(p: Panel) -> u8 {
-    let answer = charring::calls::phase(p, 0);
-    match answer {
-        PhaseAnswer::At(_) => 0,
-        PhaseAnswer::Refused(n) => n,
-    }
-}
-
-fn table_refusal(p: Panel) -> u8 {
-    let mut space = [0u32; 361];
-    let answer = charring::calls::depth_table(p, &mut space);
-    match answer {
-        TableAnswer::Filled => 0,
-        TableAnswer::Refused(n) => n,
-    }
-}
-
-fn print_refusal(rt: &impl Print, n: u8) -> io::Result<()> {
-    output::number(rt, n as u64)?;
-    output::text(rt, b" ")
 }
 
 fn print_panel(rt: &impl Print, p: Panel, name: &[u8]) -> io::Result<()> {
-    print_refusal(rt, limits::calls::panel_refusal(p))?;
-    print_refusal(rt, section_refusal(p))?;
-    print_refusal(rt, write_refusal(p))?;
-    print_refusal(rt, build_refusal(p, g()))?;
-    print_refusal(rt, build_refusal(g(), p))?;
-    print_refusal(rt, layer_refusal(layers::calls::ei_sum(p)))?;
-    print_refusal(rt, layer_refusal(layers::calls::ei(p)))?;
-    print_refusal(rt, depth_refusal(charring::calls::char_depth(p, 0)))?;
-    print_refusal(rt, depth_refusal(charring::calls::effective_depth(p, 0)))?;
-    print_refusal(rt, phase_refusal(p))?;
-    output::number(rt, table_refusal(p) as u64)?;
+    let mut bytes = [0u8; 64];
+    let mut depths = [0u32; 361];
+    let numbers = [
+        number_of(limits::calls::panel_check(p)),
+        number_of(limits::calls::section(p, 0)),
+        number_of(record::calls::write(p, &mut bytes)),
+        number_of(limits::calls::same_build(p, g())),
+        number_of(limits::calls::same_build(g(), p)),
+        number_of(layers::calls::ei_sum(p)),
+        number_of(layers::calls::ei(p)),
+        number_of(charring::calls::char_depth(p, 0)),
+        number_of(charring::calls::effective_depth(p, 0)),
+        number_of(charring::calls::phase(p, 0)),
+    ];
+    for number in numbers {
+        print!(rt; "{number} ")?;
+    }
+    let last = number_of(charring::calls::depth_table(p, &mut depths));
+    print!(rt; "{last}")?;
     output::end_line(rt, name)
 }
 
 // What 64 bytes of 238 hold after the panel is written into them.
 fn print_record(rt: &impl Print, p: Panel, name: &[u8]) -> io::Result<()> {
     let mut space = [238u8; 64];
-    record::calls::write(p, &mut space);
+    let _answer = record::calls::write(p, &mut space);
     output::hex(rt, &space)?;
     output::end_line(rt, name)
 }
 
+fn print_number(rt: &impl Print, answer: Result<u32, Refusal>) -> io::Result<()> {
+    match answer {
+        Ok(number) => print!(rt; "{number}"),
+        Err(_) => output::text(rt, b"refused"),
+    }
+}
+
 // The sum of the layer times, in hundredths of a minute.
 fn print_sum(rt: &impl Print, p: Panel, name: &[u8]) -> io::Result<()> {
-    let answer = layers::calls::ei_sum(p);
-    match answer {
-        LayerAnswer::Value(sum) => output::number(rt, sum as u64)?,
-        LayerAnswer::Refused(_) => output::text(rt, b"refused")?,
-    }
+    print_number(rt, layers::calls::ei_sum(p))?;
     output::end_line(rt, name)
 }
 
-fn print_field(rt: &impl Print, n: u64) -> io::Result<()> {
-    output::number(rt, n)?;
-    output::text(rt, b" ")
-}
-
 fn print_parts(rt: &impl Print, s: Section) -> io::Result<()> {
-    print_field(rt, s.n)?;
-    print_field(rt, s.p)?;
-    print_field(rt, s.q)?;
-    print_field(rt, s.lo)?;
-    output::number(rt, s.hi)
+    let Section { n, p, q, lo, hi } = s;
+    print!(rt; "{n} {p} {q} {lo} {hi}")
 }
 
 // N, P, Q, lo and hi at a depth in tenths of mm.
 fn print_section(rt: &impl Print, p: Panel, depth: u32, name: &[u8]) -> io::Result<()> {
-    let answer = limits::calls::section(p, depth);
-    match answer {
-        SectionAnswer::At(s, _) => print_parts(rt, s)?,
-        SectionAnswer::Refused(_) => output::text(rt, b"refused")?,
+    match limits::calls::section(p, depth) {
+        Ok((s, _)) => print_parts(rt, s)?,
+        Err(_) => output::text(rt, b"refused")?,
     }
     output::end_line(rt, name)
 }
 
 // The char depth in micrometres.
 fn print_char(rt: &impl Print, p: Panel, minute: u16, name: &[u8]) -> io::Result<()> {
-    let answer = charring::calls::char_depth(p, minute);
-    match answer {
-        DepthAnswer::Depth(depth) => output::number(rt, depth as u64)?,
-        DepthAnswer::Refused(_) => output::text(rt, b"refused")?,
-    }
+    print_number(rt, charring::calls::char_depth(p, minute))?;
     output::end_line(rt, name)
 }
 
 fn print_build(rt: &impl Print, a: Panel, b: Panel, name: &[u8]) -> io::Result<()> {
-    let answer = limits::calls::same_build(a, b);
-    match answer {
-        BuildAnswer::Same => output::text(rt, b"same")?,
-        BuildAnswer::Different => output::text(rt, b"different")?,
-        BuildAnswer::Refused(n) => output::refused(rt, n)?,
+    match limits::calls::same_build(a, b) {
+        Ok(true) => output::text(rt, b"same")?,
+        Ok(false) => output::text(rt, b"different")?,
+        Err(refusal) => print!(rt; "{refusal}")?,
     }
     output::end_line(rt, name)
 }
@@ -444,7 +384,8 @@ fn print_greatest(rt: &impl Print) -> io::Result<()> {
 
 // t_ch, the start of charring, in thousandths of a minute.
 fn print_start(rt: &impl Print, gap: u8, cladding: Cladding, name: &[u8]) -> io::Result<()> {
-    output::number(rt, panel::boards::charring_start(gap, cladding) as u64)?;
+    let start = panel::boards::charring_start(gap, cladding);
+    print!(rt; "{start}")?;
     output::end_line(rt, name)
 }
 

@@ -1,16 +1,16 @@
 // `build HEX HEX TEXT`: compares the panels of two records. Prints whether the two are the same build, or the refusal, and the text.
 // A refused record stands for a blank panel.
 use crate::records::panel_of;
-use limits::BuildAnswer;
+use limits::refusal::Refusal;
 use std::io;
 use test_lines::input::split_word;
 use test_lines::output;
 
-fn print_answer(rt: &impl Print, answer: BuildAnswer) -> io::Result<()> {
+fn print_answer(rt: &impl Print, answer: Result<bool, Refusal>) -> io::Result<()> {
     match answer {
-        BuildAnswer::Same => output::text(rt, b"same"),
-        BuildAnswer::Different => output::text(rt, b"different"),
-        BuildAnswer::Refused(n) => output::refused(rt, n),
+        Ok(true) => output::text(rt, b"same"),
+        Ok(false) => output::text(rt, b"different"),
+        Err(refusal) => print!(rt; "{refusal}"),
     }
 }
 

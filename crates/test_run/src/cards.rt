@@ -3,18 +3,18 @@
 // or the refusal; whether all bytes past those written (on a refusal all 200) are the same; and the text. The bytes written follow.
 ghost use Rattle.std.specs.Prelude.{◌≤◌, length};
 
-use fire_card::CardAnswer;
+use limits::refusal::Refusal;
 use std::io;
 use test_lines::input::{hex_bytes, number, split_word};
 use test_lines::output;
 
-fn card_into(record: &[u8], out: &mut [u8], space: usize) -> CardAnswer
+fn card_into(record: &[u8], out: &mut [u8], space: usize) -> Result<usize, Refusal>
     requires { space ≤ length out.old }
 {
     fire_card::calls::card(record, &mut out[..space])
 }
 
-fn refusal_into(n: u8, out: &mut [u8], space: usize) -> CardAnswer
+fn refusal_into(n: u8, out: &mut [u8], space: usize) -> Result<usize, Refusal>
     requires { space ≤ length out.old }
 {
     fire_card::calls::refusal(n, &mut out[..space])
@@ -40,16 +40,16 @@ fn print_written(rt: &impl Print, n: usize, bytes: &[u8], name: &[u8]) -> io::Re
     output::text(rt, written)
 }
 
-fn print_refused(rt: &impl Print, n: u8, bytes: &[u8], name: &[u8]) -> io::Result<()> {
-    output::refused(rt, n)?;
+fn print_refused(rt: &impl Print, refusal: Refusal, bytes: &[u8], name: &[u8]) -> io::Result<()> {
+    print!(rt; "{refusal}")?;
     print_unwritten(rt, bytes)?;
     output::end_line(rt, name)
 }
 
-fn print_answer(rt: &impl Print, answer: CardAnswer, bytes: &[u8], name: &[u8]) -> io::Result<()> {
+fn print_answer(rt: &impl Print, answer: Result<usize, Refusal>, bytes: &[u8], name: &[u8]) -> io::Result<()> {
     match answer {
-        CardAnswer::Written(n) => print_written(rt, n, bytes, name),
-        CardAnswer::Refused(n) => print_refused(rt, n, bytes, name),
+        Ok(n) => print_written(rt, n, bytes, name),
+        Err(refusal) => print_refused(rt, refusal, bytes, name),
     }
 }
 

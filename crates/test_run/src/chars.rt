@@ -1,18 +1,13 @@
 // `char MINUTE HEX TEXT`: charring of the record's panel at a minute. Prints the char depth in micrometres, the effective depth in tenths
 // of mm and the phase, or the refusal, and the text. A refused record stands for a blank panel.
+use crate::answers::print_answer;
 use crate::records::panel_of;
-use charring::{DepthAnswer, Phase, PhaseAnswer};
+use charring::Phase;
+use limits::refusal::Refusal;
 use panel::Panel;
 use std::io;
 use test_lines::input::{number16, split_word};
 use test_lines::output;
-
-fn print_depth(rt: &impl Print, answer: DepthAnswer) -> io::Result<()> {
-    match answer {
-        DepthAnswer::Depth(depth) => print!(rt; "{depth}"),
-        DepthAnswer::Refused(n) => output::refused(rt, n),
-    }
-}
 
 fn print_phase(rt: &impl Print, phase: Phase) -> io::Result<()> {
     match phase {
@@ -23,24 +18,22 @@ fn print_phase(rt: &impl Print, phase: Phase) -> io::Result<()> {
     }
 }
 
-fn print_phase_answer(rt: &impl Print, answer: PhaseAnswer) -> io::Result<()> {
+fn print_phase_answer(rt: &impl Print, answer: Result<Phase, Refusal>) -> io::Result<()> {
     match answer {
-        PhaseAnswer::At(phase) => print_phase(rt, phase),
-        PhaseAnswer::Refused(n) => output::refused(rt, n),
+        Ok(phase) => print_phase(rt, phase),
+        Err(refusal) => print!(rt; "{refusal}"),
     }
 }
 
 fn print_char(rt: &impl Print, p: Panel, minute: u16) -> io::Result<()> {
-    let answer = charring::calls::char_depth(p, minute);
-    match answer {
-        DepthAnswer::Depth(depth) => {
-            print!(rt; "{depth}")?;
-            output::text(rt, b" ")?;
-            print_depth(rt, charring::calls::effective_depth(p, minute))?;
+    match charring::calls::char_depth(p, minute) {
+        Ok(depth) => {
+            print!(rt; "{depth} ")?;
+            print_answer(rt, charring::calls::effective_depth(p, minute))?;
             output::text(rt, b" ")?;
             print_phase_answer(rt, charring::calls::phase(p, minute))
         }
-        DepthAnswer::Refused(n) => output::refused(rt, n),
+        Err(refusal) => print!(rt; "{refusal}"),
     }
 }
 

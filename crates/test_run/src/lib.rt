@@ -3,6 +3,7 @@
 // word gives `unknown` and what follows. A new call is a module or a function of one, and an arm below.
 #![tactic(auto)]
 
+mod answers;
 mod builds;
 mod cards;
 mod chars;

@@ -1,30 +1,25 @@
 // `load HEX TEXT`: the load minute of the record's panel. `seconds HEX TEXT`: its failure time in whole minutes and seconds. `reserve HEX
 // WANTED TEXT`: its reserve against a wanted minute. Each prints the number or both numbers, or the refusal, and the text. A refused
 // record stands for a blank panel.
+use crate::answers::print_answer;
 use crate::records::panel_of;
-use load::{LoadAnswer, LoadTimeAnswer, ReserveAnswer};
+use limits::refusal::Refusal;
+use load::MinutesAndSeconds;
 use std::io;
 use test_lines::input::{number16, split_word};
 use test_lines::output;
 
-fn print_load(rt: &impl Print, answer: LoadAnswer) -> io::Result<()> {
-    match answer {
-        LoadAnswer::Minute(minute) => print!(rt; "{minute}"),
-        LoadAnswer::Refused(n) => output::refused(rt, n),
-    }
-}
-
 pub fn answer_load(rt: &impl Print, line: &[u8]) -> io::Result<()> {
     let (record, name) = split_word(line);
     output::text(rt, b"load ")?;
-    print_load(rt, load::calls::load_minute(panel_of(record)))?;
+    print_answer(rt, load::calls::load_minute(panel_of(record)))?;
     output::end_line(rt, name)
 }
 
-fn print_time(rt: &impl Print, answer: LoadTimeAnswer) -> io::Result<()> {
+fn print_time(rt: &impl Print, answer: Result<MinutesAndSeconds, Refusal>) -> io::Result<()> {
     match answer {
-        LoadTimeAnswer::MinutesAndSeconds(minutes, seconds) => print!(rt; "{minutes} {seconds}"),
-        LoadTimeAnswer::Refused(n) => output::refused(rt, n),
+        Ok(MinutesAndSeconds { minutes, seconds }) => print!(rt; "{minutes} {seconds}"),
+        Err(refusal) => print!(rt; "{refusal}"),
     }
 }
 
@@ -35,17 +30,10 @@ pub fn answer_seconds(rt: &impl Print, line: &[u8]) -> io::Result<()> {
     output::end_line(rt, name)
 }
 
-fn print_reserve(rt: &impl Print, answer: ReserveAnswer) -> io::Result<()> {
-    match answer {
-        ReserveAnswer::By(minutes) => print!(rt; "{minutes}"),
-        ReserveAnswer::Refused(n) => output::refused(rt, n),
-    }
-}
-
 pub fn answer_reserve(rt: &impl Print, line: &[u8]) -> io::Result<()> {
     let (record, rest) = split_word(line);
     let (wanted, name) = split_word(rest);
     output::text(rt, b"reserve ")?;
-    print_reserve(rt, load::calls::reserve(panel_of(record), number16(wanted)))?;
+    print_answer(rt, load::calls::reserve(panel_of(record), number16(wanted)))?;
     output::end_line(rt, name)
 }

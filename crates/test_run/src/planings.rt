@@ -1,16 +1,17 @@
 // `planing HEX TEXT`: the least cut of one lamella that lowers the REI grade of the record's panel. Prints the lamella's place and the
 // tenths of mm, or `none`, or the refusal, and the text. A refused record stands for a blank panel.
 use crate::records::panel_of;
-use planing::PlaningAnswer;
+use limits::refusal::Refusal;
+use planing::Cut;
 use std::io;
 use test_lines::input::split_word;
 use test_lines::output;
 
-fn print_planing(rt: &impl Print, answer: PlaningAnswer) -> io::Result<()> {
+fn print_planing(rt: &impl Print, answer: Result<Option<Cut>, Refusal>) -> io::Result<()> {
     match answer {
-        PlaningAnswer::PlaceAndTenths(place, tenths) => print!(rt; "place {place} tenths {tenths}"),
-        PlaningAnswer::NoCut => output::text(rt, b"none"),
-        PlaningAnswer::Refused(n) => output::refused(rt, n),
+        Ok(Some(Cut { place, tenths })) => print!(rt; "place {place} tenths {tenths}"),
+        Ok(None) => output::text(rt, b"none"),
+        Err(refusal) => print!(rt; "{refusal}"),
     }
 }
 

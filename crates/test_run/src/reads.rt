@@ -1,7 +1,6 @@
 // `read HEX TEXT`: reads the record in hexadecimal (`-` for no bytes). Prints the refusal's number and the text. For an accepted record,
 // number 0, it also says whether writing the panel gives back the very bytes.
 use panel::Panel;
-use record::Writing;
 use std::io;
 use test_lines::input::{hex_bytes, split_word};
 use test_lines::output;
@@ -13,26 +12,21 @@ fn is_front(space: &[u8], k: usize, bytes: &[u8]) -> bool {
 
 fn gives_back(p: Panel, bytes: &[u8]) -> bool {
     let mut space = [0u8; 64];
-    let answer = record::calls::write(p, &mut space);
-    match answer {
-        Writing::Written(k) => is_front(&space, k, bytes),
-        Writing::Refused(_) => false,
+    match record::calls::write(p, &mut space) {
+        Ok(k) => is_front(&space, k, bytes),
+        Err(_) => false,
     }
 }
 
 fn print_reading(rt: &impl Print, bytes: &[u8]) -> io::Result<()> {
-    let reading = record::calls::read(bytes);
-    let refusal = reading.refusal;
-    print!(rt; "{refusal}")?;
-    if refusal == 0 {
-        let p = reading.panel;
-        if gives_back(p, bytes) {
-            output::text(rt, b" same")?;
-        } else {
-            output::text(rt, b" differs")?;
+    match record::calls::read(bytes) {
+        Ok(accepted) if gives_back(accepted.panel(), bytes) => output::text(rt, b"0 same"),
+        Ok(_) => output::text(rt, b"0 differs"),
+        Err(refusal) => {
+            let number = u8::from(refusal);
+            print!(rt; "{number}")
         }
     }
-    Ok(())
 }
 
 pub fn answer(rt: &impl Print, line: &[u8]) -> io::Result<()> {

@@ -7,11 +7,10 @@ ghost use Rattle.section.specs.Tests.{section_at};
 ghost use Rattle.limits.specs.Refusals.{panel_refusal};
 
 use crate::records::panel_of;
-use limits::SectionAnswer;
-use limits::calls::panel_refusal;
 use limits::causes::total_thickness;
+use limits::check::Accepted;
+use limits::refusal::Refusal;
 use panel::Panel;
-use panel::faces::shown;
 use section::Section;
 use section::carry::{carried_at_start, deeper};
 use section::test::DesignValues;
@@ -24,9 +23,9 @@ fn print_section(rt: &impl Print, s: Section) -> io::Result<()> {
     print!(rt; "{n} {p} {q} {lo} {hi} ")
 }
 
-fn print_answer(rt: &impl Print, answer: SectionAnswer) -> io::Result<()> {
+fn print_answer(rt: &impl Print, answer: Result<(Section, bool), Refusal>) -> io::Result<()> {
     match answer {
-        SectionAnswer::At(s, passes) => {
+        Ok((s, passes)) => {
             print_section(rt, s)?;
             if passes {
                 output::text(rt, b"passes")
@@ -34,7 +33,7 @@ fn print_answer(rt: &impl Print, answer: SectionAnswer) -> io::Result<()> {
                 output::text(rt, b"fails")
             }
         }
-        SectionAnswer::Refused(n) => output::refused(rt, n),
+        Err(refusal) => print!(rt; "{refusal}"),
     }
 }
 
@@ -60,17 +59,10 @@ fn carried_to(p: Panel, depth: u64) -> Section
     c.section
 }
 
-fn carried_answer(p: Panel, depth: u32) -> SectionAnswer {
-    let n = panel_refusal(p);
-    if n != 0 {
-        return SectionAnswer::Refused(n);
-    }
-    let exposed = shown(p);
+fn carried_answer(p: Panel, depth: u32) -> Result<(Section, bool), Refusal> {
+    let exposed = Accepted::of(p)?.shown().panel();
     let s = carried_to(exposed, u64::from(depth));
-    SectionAnswer::At(
-        s,
-        DesignValues::of(&exposed).section_passes(s),
-    )
+    Ok((s, DesignValues::of(&exposed).section_passes(s)))
 }
 
 pub fn answer_carried(rt: &impl Print, line: &[u8]) -> io::Result<()> {

@@ -4,22 +4,22 @@
 ghost use Rattle.std.specs.Prelude.{◌≤◌, length};
 
 use crate::records::panel_of;
-use charring::TableAnswer;
+use limits::refusal::Refusal;
 use panel::Panel;
 use std::io;
 use test_lines::input::{number, split_word};
 use test_lines::output;
 
-fn fill_table(p: Panel, out: &mut [u32], space: usize) -> TableAnswer
+fn fill_table(p: Panel, out: &mut [u32], space: usize) -> Result<(), Refusal>
     requires { space ≤ length out.old }
 {
     charring::calls::depth_table(p, &mut out[..space])
 }
 
-fn print_filled(rt: &impl Print, answer: TableAnswer) -> io::Result<()> {
+fn print_filled(rt: &impl Print, answer: Result<(), Refusal>) -> io::Result<()> {
     match answer {
-        TableAnswer::Filled => output::text(rt, b"filled"),
-        TableAnswer::Refused(n) => output::refused(rt, n),
+        Ok(()) => output::text(rt, b"filled"),
+        Err(refusal) => print!(rt; "{refusal}"),
     }
 }
 

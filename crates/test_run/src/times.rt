@@ -1,19 +1,13 @@
 // `time KIND H TEXT`: the basic time at a thickness in tenths of mm. KIND is `bp` or `bi` for protection or insulation by gypsum, as a board,
 // `lp` or `li` by solid wood, as a lamella, `op` or `oi` by OSB, `pp` or `pi` by particle board. Prints the time in hundredths of a minute,
 // or the refusal, and the text.
+use crate::answers::print_answer;
+use basic_times::Role;
 use basic_times::calls::basic_time;
-use basic_times::{Role, TimeAnswer};
 use panel::Material;
 use std::io;
 use test_lines::input::{number16, split_word};
 use test_lines::output;
-
-fn print_answer(rt: &impl Print, answer: TimeAnswer) -> io::Result<()> {
-    match answer {
-        TimeAnswer::Time(t) => print!(rt; "{t}"),
-        TimeAnswer::Refused(n) => output::refused(rt, n),
-    }
-}
 
 fn print_time(rt: &impl Print, kind: &[u8], h: u16) -> io::Result<()> {
     let (role, material) = match kind {

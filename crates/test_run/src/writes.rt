@@ -3,22 +3,22 @@
 ghost use Rattle.std.specs.Prelude.{◌≤◌, length};
 
 use crate::records::panel_of;
+use limits::refusal::Refusal;
 use panel::Panel;
-use record::Writing;
 use std::io;
 use test_lines::input::{number, split_word};
 use test_lines::output;
 
-fn write_into(p: Panel, out: &mut [u8], space: usize) -> Writing
+fn write_into(p: Panel, out: &mut [u8], space: usize) -> Result<usize, Refusal>
     requires { space ≤ length out.old }
 {
     record::calls::write(p, &mut out[..space])
 }
 
-fn print_answer(rt: &impl Print, answer: Writing) -> io::Result<()> {
+fn print_answer(rt: &impl Print, answer: Result<usize, Refusal>) -> io::Result<()> {
     match answer {
-        Writing::Written(k) => { print!(rt; "written {k}") }
-        Writing::Refused(n) => output::refused(rt, n),
+        Ok(k) => { print!(rt; "written {k}") }
+        Err(refusal) => print!(rt; "{refusal}"),
     }
 }
 
