@@ -55,7 +55,7 @@ fn is_lowered(minutes: u16, q: Panel) -> bool
     if !lasts(q, minutes) {
         return true;
     }
-    (ei_minute_of(q) as u16) < minutes
+    ei_minute_of(q) < u32::from(minutes)
 }
 
 impl Rated {

@@ -1,8 +1,8 @@
 -- `planing::cuts::is_lowered` meets its contract: neither R nor the grade need be worked out. Assumes nothing.
-use Prim.Native.Nat.{ℕ}
 use Rattle.planing.proofs.Lowering.{fails_lowered, lasting_accepted, lasting_by_ei}
 use lib.Dec.{ltb}
-use mathlib.Core.Path.{sym, ap, ◌∙◌}
+use borrow.Author.Rules.{rules}
+use mathlib.Core.Path.{◌≡◌, sym, ap₂, ◌∙◌}
 use Rattle.planing.proofs.cuts.is_lowered.Goals as goal
 
 pub returns-then-not-lasts : goal.returns-then-not-lasts
@@ -21,7 +21,8 @@ ei_minute_of-requires c =
 pub returns : goal.returns
 returns c =
     let lasting = c.lasts in
-    ap (λ (ei : ℕ). ltb ei c.args.minutes) c.ei_minute_of.ensures.0
+    let same : c.from.result ≡ c.args.minutes = search rules in
+    ap₂ ltb c.ei_minute_of.ensures.0 same
     ∙ sym
     (lasting_by_ei c.args.minutes c.args.q c.requires.minutes_le_last_minute.0 c.requires.minutes_le_last_minute.1 c.requires.q_value
     (sym lasting.ensures ∙ c.if-not-lasts.false))
