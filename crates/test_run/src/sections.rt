@@ -78,10 +78,7 @@ fn carried_answer(p: Panel, depth: u32) -> SectionAnswer {
     }
     let exposed = shown(p);
     let s = carried_to(exposed, depth as u64);
-    SectionAnswer::At(
-        s,
-        DesignValues::of(&exposed).section_passes(s),
-    )
+    SectionAnswer::At(s, DesignValues::of(&exposed).section_passes(s))
 }
 
 pub fn answer_carried(rt: &impl Print, line: &[u8]) -> io::Result<()> {

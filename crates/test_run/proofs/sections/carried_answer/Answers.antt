@@ -20,21 +20,15 @@ shown-exposed-requires c = (accepted_fits c.args.p (sym c.panel_refusal-n.ensure
 pub carried_to-s-requires : goal.carried_to-s-requires
 carried_to-s-requires c = fire_accepted c.args.p c.shown-exposed.result c.panel_refusal-n.ensures c.if-n-ne0.false c.shown-exposed.ensures
 
-pub section_passes-requires-clause-moment_bound : goal.section_passes-requires-clause-moment_bound
-section_passes-requires-clause-moment_bound c =
+pub of-requires : goal.of-requires
+of-requires c =
     let fire = c.shown-exposed.result in
-    (accepted_fits fire (fire_accepted c.args.p fire c.panel_refusal-n.ensures c.if-n-ne0.false c.shown-exposed.ensures)).moment
+    let fits = accepted_fits fire (fire_accepted c.args.p fire c.panel_refusal-n.ensures c.if-n-ne0.false c.shown-exposed.ensures) in
+    (fits.moment, fits.strength)
 
-pub section_passes-requires-clause-strength_bound :
-    goal.section_passes-requires-clause-strength_bound
-section_passes-requires-clause-strength_bound c =
-    let fire = c.shown-exposed.result in
-    (accepted_fits fire (fire_accepted c.args.p fire c.panel_refusal-n.ensures c.if-n-ne0.false c.shown-exposed.ensures)).strength
-
-pub section_passes-requires-clause-section_bounds :
-    goal.section_passes-requires-clause-section_bounds
-section_passes-requires-clause-section_bounds c =
+pub section_passes-requires : goal.section_passes-requires
+section_passes-requires c =
     let fire = c.shown-exposed.result in
     let fits = accepted_fits fire (fire_accepted c.args.p fire c.panel_refusal-n.ensures c.if-n-ne0.false c.shown-exposed.ensures) in
     let depth = min c.args.depth (thickness (lamellae fire)) in
-    rw c.carried_to-s.ensures (counted_bounds depth (lamellae fire) fits.thickness, nothing_cut depth (lamellae fire))
+    record { section_bounds = rw c.carried_to-s.ensures (counted_bounds depth (lamellae fire) fits.thickness, nothing_cut depth (lamellae fire)) }

@@ -1,9 +1,9 @@
 -- A panel that no line turns back keeps what the carrying asks of its lamellae.
-use Rattle.std.proofs.Common.{◌≡◌, List, subst, ap, arith}
+use Rattle.std.proofs.Common.{◌≡◌, List, subst, arith}
 use Rattle.limits.proofs.Accepted.{accepted_fits}
 use Rattle.limits.proofs.Carried.{accepted_thick}
 use Rattle.limits.specs.Refusals.{panel_refusal}
-use Rattle.panel.specs.Lamellae.{Lamella, lamellae, thickness}
+use Rattle.panel.specs.Lamellae.{Lamella, lamellae}
 use Rattle.panel.specs.declared.Panel.{Panel}
 use Rattle.section.specs.Carrying.{CarriedAt, LamellaeFit}
 use Rattle.section.specs.declared.Carried.{Carried}
@@ -23,10 +23,15 @@ pub carried_at_start-c-requires : goal.carried_at_start-c-requires
 carried_at_start-c-requires c = rw c.lamellae-lamellae.ensures (fits c.args.p c.requires)
 
 pub loop-c-init : goal.loop-c-init
-loop-c-init c = ?
+loop-c-init c =
+    let start = c.carried_at_start-c in
+    let zero = start.ensures.1 in
+    (carried_in c.args.p start.result _ c.lamellae-lamellae.ensures start.ensures.0, omega arith)
 
-pub deeper-c-requires : goal.deeper-c-requires
-deeper-c-requires c = ?
+pub deeper-c-requires-clause-lamellae_fit : goal.deeper-c-requires-clause-lamellae_fit
+deeper-c-requires-clause-lamellae_fit c = rw c.lamellae-lamellae.ensures (fits c.args.p c.requires, c.loop-c.invariant.0)
 
 pub loop-c-preserved : goal.loop-c-preserved
-loop-c-preserved c = ?
+loop-c-preserved c =
+    let next = c.deeper-c.ensures.1 in
+    (carried_in c.args.p c.deeper-c.result _ c.lamellae-lamellae.ensures c.deeper-c.ensures.0, omega (arith, c.loop-c-test.true))
