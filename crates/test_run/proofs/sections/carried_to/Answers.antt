@@ -1,9 +1,9 @@
 -- A panel that no line turns back keeps what the carrying asks of its lamellae.
-use Rattle.std.proofs.Common.{◌≡◌, List, subst, ap, arith}
+use Rattle.std.proofs.Common.{◌≡◌, List, subst, arith}
 use Rattle.limits.proofs.Accepted.{accepted_fits}
 use Rattle.limits.proofs.Carried.{accepted_thick}
 use Rattle.limits.specs.Refusals.{panel_refusal}
-use Rattle.panel.specs.Lamellae.{Lamella, lamellae, thickness}
+use Rattle.panel.specs.Lamellae.{Lamella, lamellae}
 use Rattle.panel.specs.declared.Panel.{Panel}
 use Rattle.section.specs.Carrying.{CarriedAt, LamellaeFit}
 use Rattle.section.specs.declared.Carried.{Carried}
