@@ -1,6 +1,6 @@
 -- What the open calls answer where a line turns the panel or the call back, and where none does.
 use Prim.Native.Nat.{ℕ, suc, ◌+◌, ◌≤◌, ◌<◌}
-use mathlib.Core.Path.{◌≡◌, refl, sym, ap, subst, ◌∙◌}
+use mathlib.Core.Path.{◌≡◌, refl, sym, ap, ◌∙◌}
 use mathlib.Core.List.{List, [], ◌∷◌, ◌++◌, append_assoc, append-nil}
 use native.Mathlib.Numerals.{add-one}
 use borrow.Author.Tests.{ltb-false, lt-ltb, le-ltb}
@@ -14,11 +14,7 @@ use Rattle.panel.specs.declared.Panel.{Panel}
 use Rattle.panel.specs.Faces.{shown}
 use Rattle.limits.specs.Lines.{Line, line}
 use Rattle.limits.specs.Refusals.{panel_lines, panel_refusal}
-use Rattle.limits.proofs.Accepted.{accepted_fits}
-use Rattle.limits.proofs.Turned.{shown_accepted}
 use Rattle.limits.proofs.FirstLine.{cause_none, open_above, open_both, answered, turned_back}
-use Rattle.charring.specs.Fits.{FireFits}
-use Rattle.charring.proofs.Accepted.{fire_fits}
 use Rattle.charring.specs.Answers.{minute_refusal, depth_table, table_refusal, table_answer, table_after}
 
 -- A minute

@@ -10,7 +10,6 @@ use borrow.Author.Tests.{lt-ltb, le-ltb}
 use lib.Dec.{ltb}
 use Rattle.numbers.proofs.LeastKept.{least_is}
 use Rattle.panel.specs.declared.Panel.{Panel}
-use Rattle.planing.specs.declared.Cut.{Cut}
 use Rattle.planing.specs.Answers.{place_on, cut_behind, lowering, first_behind, most_cut, least_tenths, planing_of}
 
 -- no lamella can have so many tenths taken off that the grade falls

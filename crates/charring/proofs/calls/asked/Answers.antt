@@ -1,5 +1,5 @@
 -- `charring::calls::asked` meets its contract: the panel's lines come before line 15. Assumes nothing.
-use Rattle.std.proofs.Common.{Ok, sym, ◌∙◌}
+use Rattle.std.proofs.Common.{Ok}
 use Rattle.std.proofs.lemmas.Result.{err_from_is_err_and}
 use Rattle.charring.specs.Answers.{minute_refusal, asked_answer}
 use Rattle.charring.proofs.Replies.{late}
@@ -8,7 +8,6 @@ use Rattle.limits.specs.Answers.{accepted_answer}
 use Rattle.limits.specs.Causes.{bad_minute}
 use Rattle.limits.specs.Refusals.{panel_lines, panel_refusal}
 use Rattle.limits.specs.declared.refusal.Refusal.TheVariants.{Minute}
-use lib.Dec.{ltb}
 use Rattle.charring.proofs.calls.asked.Goals as goal
 
 pub returns-in_err-accepted : goal.returns-in_err-accepted
@@ -25,7 +24,7 @@ returns-in_err-refuse_if c =
     let p = err_from_is_err_and c.from_residual-in_err-refuse_if.result c.from_residual-in_err-refuse_if.ensures.1 in
     let none = (accepted_with c.in_ok-accepted.ensures).0 in
     rw (p.1, p.2)
-        (passed_on (minute_refusal a.p a.minute) tt (Ok a.p) (call_line (panel_lines a.p) tt none (bad_minute a.minute) Minute c.in_err-refuse_if.ensures))
+    (passed_on (minute_refusal a.p a.minute) tt (Ok a.p) (call_line (panel_lines a.p) tt none (bad_minute a.minute) Minute c.in_err-refuse_if.ensures))
 
 pub returns : goal.returns
 unfolding asked_answer minute_refusal accepted_answer panel_refusal

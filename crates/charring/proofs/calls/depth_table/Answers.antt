@@ -1,5 +1,5 @@
 -- `charring::calls::depth_table` meets its contract: the table is filled where no line and no want of space refuses the call. Assumes nothing.
-use Rattle.std.proofs.Common.{◌≡◌, ◌≤◌, ◌++◌, length, drop, sym, ap, ◌∙◌}
+use Rattle.std.proofs.Common.{◌≤◌, ◌++◌, length, drop, sym, ap, ◌∙◌}
 use Rattle.std.proofs.lemmas.Result.{err_from_is_err_and}
 use Rattle.charring.proofs.Replies.{short, table_turned, table_filled}
 use Rattle.charring.specs.Answers.{depth_table, table_refusal}

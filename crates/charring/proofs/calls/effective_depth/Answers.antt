@@ -1,9 +1,7 @@
 -- `charring::calls::effective_depth` meets its contract: the depth of a panel and a minute that no line refuses. Assumes nothing.
-use Rattle.std.proofs.Common.{Ok, ap, ◌∙◌}
+use Rattle.std.proofs.Common.{Ok, ◌∙◌}
 use Rattle.std.proofs.lemmas.Result.{err_from_is_err_and}
 use Rattle.limits.proofs.FirstLine.{passed_on, worked_out}
-use Rattle.limits.specs.Answers.{accepted_answer}
-use Rattle.limits.specs.Refusals.{panel_refusal}
 use Rattle.charring.proofs.Replies.{minute_taken}
 use Rattle.charring.specs.Answers.{minute_refusal, asked_answer, effective_answer}
 use Rattle.limits.proofs.FirstLine.{accepted_with}

@@ -1,5 +1,5 @@
 -- `fire_card::calls::deliver` meets its contract: a text that does not fit changes nothing. Assumes nothing.
-use Rattle.std.proofs.Common.{◌≤◌, length, drop, List, [], ℕ, ◌++◌, refl, sym, ap, ◌∙◌}
+use Rattle.std.proofs.Common.{length, drop, List, [], ℕ, ◌++◌, refl, sym, ap, ◌∙◌}
 use Rattle.std.proofs.lemmas.Result.{err_from_is_err_and}
 use Rattle.fire_card.proofs.Texts.{text_refused_so, text_fits}
 use Rattle.fire_card.specs.Answers.{text_refusal}

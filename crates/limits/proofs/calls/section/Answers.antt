@@ -1,5 +1,5 @@
 -- `limits::calls::section` meets its contract: the section is worked out of a panel that no line refuses. Assumes nothing.
-use Rattle.std.proofs.Common.{◌≡◌, Bool, Ok, sym, ap, ◌∙◌}
+use Rattle.std.proofs.Common.{◌≡◌, Bool, Ok, ap, ◌∙◌}
 use Rattle.std.proofs.lemmas.Result.{err_from_is_err_and}
 use Rattle.limits.proofs.Accepted.{accepted_fits}
 use Rattle.limits.proofs.FirstLine.{accepted_with, passed_on, goes_on}
@@ -21,7 +21,7 @@ returns-in_err-of c =
     let p = err_from_is_err_and c.from_residual.result c.from_residual.ensures.1 in
     let fire = shown c.args.p in
     rw (p.1, p.2)
-        (passed_on (panel_refusal c.args.p) c.args.p (Ok (section_at fire c.args.depth, depth_passes fire c.args.depth)) c.in_err-of.ensures)
+    (passed_on (panel_refusal c.args.p) c.args.p (Ok (section_at fire c.args.depth, depth_passes fire c.args.depth)) c.in_err-of.ensures)
 
 pub section_at-s-requires : goal.section_at-s-requires
 section_at-s-requires c = accepted_fits c.panel-exposed.result c.panel-exposed.ensures.accepted

@@ -6,9 +6,8 @@ use Rattle.limits.specs.Answers.{accepted_answer}
 use Rattle.limits.specs.Refusals.{panel_refusal}
 use Rattle.panel.specs.declared.Panel.{Panel}
 use Rattle.load.specs.Answers.{minutes_and_seconds, load_time_answer}
-use Rattle.load.specs.LoadMinute.{minutes_in, seconds_over, printed_load_seconds}
-use Rattle.load.specs.declared.MinutesAndSeconds.{MinutesAndSeconds}
-use Rattle.std.proofs.Common.{◌≡◌, ℕ}
+use Rattle.load.specs.LoadMinute.{printed_load_seconds}
+use Rattle.std.proofs.Common.{ℕ}
 use mathlib.Core.Path.{ap₂}
 use Rattle.load.proofs.calls.load_time.Goals as goal
 

@@ -1,7 +1,6 @@
 -- `load::scan::scan` meets its contract: the last depth that passes decides for each second, and earlier ones pass too. Assumes nothing.
 use Prim.Native.Nat.{ℕ, ◌+◌}
 use Rattle.charring.specs.Depths.{tenths_at}
-use Rattle.charring.proofs.Minutes.{tenths_same}
 use Rattle.load.proofs.LastPassing.{time_by_depth}
 use Rattle.load.proofs.LoadMinutes.{test_zero, test_earlier}
 use Rattle.load.specs.LastPassing.{last_passing}

@@ -1,5 +1,5 @@
 -- `record::calls::read` meets its contract: the panel is handed out where no line fits. Assumes nothing.
-use Rattle.std.proofs.Common.{◌≡◌, ap, ◌∙◌}
+use Rattle.std.proofs.Common.{◌∙◌}
 use Rattle.limits.specs.Lines.{refusal, unless_refused}
 use Rattle.limits.specs.Refusals.{table_lines}
 use Rattle.limits.specs.declared.ByteFaults.{ByteFaults}

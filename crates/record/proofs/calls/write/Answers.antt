@@ -42,8 +42,7 @@ returns-in_err-refuse_if c =
 pub put_record-requires : goal.put_record-requires
 put_record-requires c =
     let out = c.args.out.now in
-    let len = c.record_length-length in
-    (
+    let len = c.record_length-length in (
       (accepted_fits c.panel-accepted.result c.panel-accepted.ensures.accepted).count,
       rw len.ensures.0 at (ltb-false (length out) len.result (not_fitting (ltb (length out) len.result) Space c.in_ok-refuse_if.ensures)),
     )
