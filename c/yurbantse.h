@@ -10,7 +10,7 @@
    Any bytes may be given, and any space lent; the functions always return. The caller must see to what C cannot say:
    - a pointer points to as many bytes as are named, and is not null, even where that is none;
    - `out` shares no byte with `bytes`, and nothing else writes either before the call returns.
-   The functions keep nothing, allocate nothing and call only memcpy. Two threads may call them at once on different spaces. */
+   The functions keep nothing, allocate nothing and call only memcpy and memset. Two threads may call them at once on different spaces. */
 #ifndef YURBANTSE_H
 #define YURBANTSE_H
 

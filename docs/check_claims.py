@@ -24,8 +24,8 @@ def known_names():
 
 
 # Words of the language and its library, of commands and of printed lines.
-OTHER = set("""ltb leb eqb not elim take drop length replicate get_or u32 A B c n q lo hi e S t h N P Q M R RS EI REI CARD CHAR REFUSED read write run
-refl specs proofs src""".split())
+OTHER = set("""ltb leb eqb not elim take drop length replicate get_or u8 u32 Result Ok Err Option Some None A B c n q lo hi e S t h N P Q M R RS
+EI REI CARD CHAR REFUSED read write run refl specs proofs src""".split())
 
 
 def parts(quoted):

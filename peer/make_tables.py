@@ -31,7 +31,7 @@ def main():
     for table in peer.TABLES:
         path = os.path.join(repository, "crates/basic_times/src", f"{table}.rt")
         if not os.path.exists(path):
-            sys.exit(f"no {path}: first write it, with its contract and a table of no entries")
+            sys.exit(f"no {path}: first write it, with its role and material and a table of no entries")
         entries = peer.entries(table)
         write_table(path, entries)
         print(f"{table}: {len(entries)} entries")
