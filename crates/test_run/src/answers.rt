@@ -1,7 +1,6 @@
 // What a call answers that can be refused.
 use limits::refusal::Refusal;
-use std::fmt;
-use std::io;
+use std::{fmt, io};
 
 // The value, or the refusal.
 pub fn print_answer<T: fmt::Display + Drop>(

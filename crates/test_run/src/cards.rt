@@ -46,7 +46,12 @@ fn print_refused(rt: &impl Print, refusal: Refusal, bytes: &[u8], name: &[u8]) -
     output::end_line(rt, name)
 }
 
-fn print_answer(rt: &impl Print, answer: Result<usize, Refusal>, bytes: &[u8], name: &[u8]) -> io::Result<()> {
+fn print_answer(
+    rt: &impl Print,
+    answer: Result<usize, Refusal>,
+    bytes: &[u8],
+    name: &[u8],
+) -> io::Result<()> {
     match answer {
         Ok(n) => print_written(rt, n, bytes, name),
         Err(refusal) => print_refused(rt, refusal, bytes, name),

@@ -16,4 +16,4 @@ section_passes-requires c =
     let fire = c.panel-exposed.result in
     let fits = accepted_fits fire c.panel-exposed.ensures.accepted in
     let depth = min c.from.result (thickness (lamellae fire)) in
-    record { section_bounds = rw c.carried_to-s.ensures (counted_bounds depth (lamellae fire) fits.thickness, nothing_cut depth (lamellae fire)); }
+    record { section_bounds = rw c.carried_to-s.ensures (counted_bounds depth (lamellae fire) fits.thickness, nothing_cut depth (lamellae fire)) }
