@@ -1,4 +1,4 @@
-// Text in lent bytes: a line of a head and numbers, as document 01's printed card has them.
+// A text of fixed room: lines of a head and numbers, as document 01's printed card has them.
 // No function here knows of cards or panels.
 #![tactic(auto)]
 

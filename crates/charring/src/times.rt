@@ -1,10 +1,19 @@
 // A time of which a depth or a phase is asked, and what is worked out times q of it.
 ghost use Rattle.std.specs.Prelude.{◌≡◌, ◌*◌, ◌≤◌};
 ghost use Rattle.limits.specs.Causes.{last_minute};
+ghost use Rattle.charring.specs.Fits.{TimeFits};
 
 use crate::Time;
 
 impl Time {
+    // n/q minutes. No open call: at most 360 minutes, in parts of which at most sixty make one.
+    pub fn of(n: u64, q: u64) -> Time
+        requires { TimeFits n q }
+        ensures { (result.n ≡ n) × (result.q ≡ q) }
+    {
+        Time { n, q }
+    }
+
     // A whole minute.
     pub fn minute(minute: u64) -> Time
         requires { minute ≤ last_minute }

@@ -1,2 +1,3 @@
+pub mod Between
 pub mod Falling
 pub mod Greatest

@@ -108,14 +108,17 @@ fn some_bad_lamella(lamellae: Lamellae<'_>) -> bool
     ))
 }
 
-fn sum_of(thicknesses: &[u16]) -> u32
+// The sum of at most nine thicknesses. No open call, for the nine.
+pub fn sum_of(thicknesses: &[u16]) -> u32
     requires { length thicknesses.now ≤ 9 }
     ensures { result ≡ sum thicknesses.now }
 {
     thicknesses.iter().map(|t| u32::from(*t)).sum()
 }
 
+// The thickness of lent lamellae. No open call: a panel has at most nine.
 pub fn total_thickness(lamellae: Lamellae<'_>) -> u32
+    requires { length (lamellae_in lamellae) ≤ 9 }
     ensures { result ≡ thickness (lamellae_in lamellae.entry) }
 {
     sum_of(lamellae.thicknesses)

@@ -1,4 +1,4 @@
-// What every other crate counts with: range tests, differences that stop at 0, and big-endian numbers in bytes.
+// What every other crate counts with: big-endian numbers in bytes, a search for the last number that keeps a test, and laws about lists.
 // No function here knows of panels.
 #![tactic(auto)]
 

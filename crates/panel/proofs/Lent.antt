@@ -19,7 +19,8 @@ use Rattle.std.proofs.Common.{Iter}
 use Rattle.std.specs.declared.iter.Zip.{Zip}
 use Rattle.std.specs.Slice.Iter.{iter_rest}
 use Rattle.panel.specs.declared.lamellae.Lamellae.{Lamellae}
-use Rattle.panel.specs.Lamellae.{Lamella, lamella, thickness}
+use Rattle.panel.specs.Lamellae.{Lamella, lamella, lamellae, thickness}
+use Rattle.panel.specs.declared.Panel.{Panel}
 use Rattle.panel.specs.Lent.{lamellae_in}
 use Rattle.panel.proofs.Used.{length_lamellae_of, get_or_lamellae_of, directions_lamellae_of, thicknesses_lamellae_of}
 
@@ -85,3 +86,7 @@ thickness_sum (x ∷ ls) =
 
 pub thickness_in : (l : Lamellae) → thickness (lamellae_in l) ≡ sum l.thicknesses.now
 thickness_in l = thickness_sum (lamellae_in l) ∙ ap sum (thicknesses_in l)
+
+-- a panel has at most nine lamellae
+pub nine_lamellae : (p : Panel) → p.count ≤ 9 → length (lamellae p) ≤ 9
+nine_lamellae p h = rw (length_lamellae_of p.directions p.thicknesses p.count) h

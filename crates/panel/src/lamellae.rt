@@ -9,7 +9,6 @@ pub struct Lamellae<'a> {
     pub directions: &'a [u8],
     pub thicknesses: &'a [u16],
     pub ghost aligned: { length directions.now ≡ length thicknesses.now },
-    pub ghost at_most_nine: { length directions.now ≤ 9 },
 }
 
 impl<'a> Lamellae<'a> {

@@ -1,4 +1,4 @@
-// Panels that no record gives: built here, field by field, and handed to each open call. A line has the refusals of `panel_refusal`, of
+// Panels that no record gives: built here, field by field, and handed to each open call. A line has the refusals of `panel_check`, of
 // `section`, of `write`, of `same_build` with the panel in the first and in the second place, of `ei_sum` and `ei`, and at
 // minute 0 of `char_depth`, `effective_depth`, `phase` and `depth_table`, 0 for none, and the panel's name.
 #![tactic(auto)]

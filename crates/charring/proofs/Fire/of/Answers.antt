@@ -4,6 +4,7 @@ use native.Mathlib.Omega.{arith}
 use Rattle.charring.proofs.Numbers.{slow_most, depth_most, end_most}
 use Rattle.charring.specs.Fires.{slow_rate, depth_at_failure, intact_end, first_end}
 use mathlib.Core.Path.{◌≡◌, ap, ◌∙◌}
+use Rattle.panel.proofs.Lent.{nine_lamellae}
 use Rattle.panel.specs.Lamellae.{thickness}
 use Rattle.charring.proofs.Fire.of.Goals as goal
 
@@ -31,3 +32,6 @@ invariant_of-result c =
       depth_most = omega (arith, depth, depth_most p c.requires);
       end_most = omega (arith, end, end_most p c.requires);
     }
+
+pub total_thickness-requires : goal.total_thickness-requires
+total_thickness-requires c = rw c.lamellae.ensures (nine_lamellae c.args.panel c.requires.count)

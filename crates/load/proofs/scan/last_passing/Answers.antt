@@ -2,6 +2,7 @@
 use Prim.Native.Nat.{ℕ, ◌+◌, ◌<◌}
 use Rattle.load.proofs.LastPassing.{last_found}
 use Rattle.load.specs.Failure.{EveryTenthPasses}
+use Rattle.panel.proofs.Lent.{nine_lamellae}
 use Rattle.panel.specs.Lamellae.{Lamella, lamellae, thickness}
 use Rattle.panel.specs.Timber.{factor_of}
 use Rattle.panel.specs.declared.Panel.{Panel}
@@ -143,3 +144,6 @@ returns c =
     (last_found p c.loop-c.c.depth i.1.0 i.1.1
     (λ less. absurd
     (let z : ⊥ = omega (arith, c.loop-c-test.false, c.total_thickness.ensures, ap thickness c.lamellae-lamellae.ensures) in z)))
+
+pub total_thickness-requires : goal.total_thickness-requires
+total_thickness-requires c = rw c.lamellae-lamellae.ensures (nine_lamellae c.args.p c.requires.0.count)

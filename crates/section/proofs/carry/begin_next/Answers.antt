@@ -39,7 +39,7 @@ pub bounds-lamellae-c : goal.bounds-lamellae-c
 bounds-lamellae-c c = omega (arith, there (goal.at.bounds-lamellae-c c).Start, c.args.lamellae.aligned)
 
 pub offset_bounds-lamellae-c : goal.offset_bounds-lamellae-c
-offset_bounds-lamellae-c c = omega (arith, there (goal.at.offset_bounds-lamellae-c c).Start, c.args.lamellae.at_most_nine)
+offset_bounds-lamellae-c c = omega (arith, there (goal.at.offset_bounds-lamellae-c c).Start, c.ranges.lamellae)
 
 pub overflow_add-end : goal.overflow_add-end
 overflow_add-end c = omega (arith, within (goal.at.overflow_add-end c).After-from-thick (there (goal.at.overflow_add-end c).Start))

@@ -3,6 +3,7 @@ use Rattle.std.proofs.Common.{◌≡◌, List, subst, arith}
 use Rattle.limits.proofs.Accepted.{accepted_fits}
 use Rattle.limits.proofs.Carried.{accepted_thick}
 use Rattle.limits.specs.Refusals.{panel_refusal}
+use Rattle.panel.proofs.Lent.{nine_lamellae}
 use Rattle.panel.specs.Lamellae.{Lamella, lamellae}
 use Rattle.panel.specs.declared.Panel.{Panel}
 use Rattle.section.specs.Carrying.{CarriedAt, LamellaeFit}
@@ -35,3 +36,6 @@ pub loop-c-preserved : goal.loop-c-preserved
 loop-c-preserved c =
     let next = c.deeper-c.ensures.1 in
     (carried_in c.args.p c.deeper-c.result _ c.lamellae-lamellae.ensures c.deeper-c.ensures.0, omega (arith, c.loop-c-test.true))
+
+pub total_thickness-requires : goal.total_thickness-requires
+total_thickness-requires c = rw c.lamellae-lamellae.ensures (nine_lamellae c.args.p (accepted_fits c.args.p c.requires).count)
