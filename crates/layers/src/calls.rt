@@ -8,6 +8,7 @@ use limits::check::Accepted;
 use limits::refusal::Refusal;
 use panel::Panel;
 
+#[tactic(auto, using(limits::proofs::FirstLine::handed_on, limits::proofs::FirstLine::worked_out), unfolding(crate::specs::Answers::ei_sum_answer, limits::specs::Answers::accepted_answer))]
 // The sum of the layer times in hundredths of a minute.
 pub fn ei_sum(p: Panel) -> Result<u32, Refusal>
     ensures { by_number result ≡ ei_sum_answer p }

@@ -5,6 +5,8 @@ use Rattle.panel.specs.Builds.{same_build}
 use Rattle.panel.specs.Faces.{shown}
 use Rattle.section.specs.declared.Section.{Section}
 use Rattle.section.specs.Tests.{section_at, depth_passes}
+use Rattle.numbers.specs.Choice.{pick}
+use Rattle.limits.specs.Causes.{bad_minute}
 use Rattle.limits.specs.Lines.{answer, unless_refused}
 use Rattle.limits.specs.Refusals.{panel_refusal}
 
@@ -15,6 +17,10 @@ panel_check p = unless_refused (panel_refusal p) tt
 -- an accepted panel, or the refusal
 unfoldable pub accepted_answer : Panel → Result Panel ℕ
 accepted_answer p = unless_refused (panel_refusal p) p
+
+-- a minute, or line 15
+abbrev pub minute_answer : ℕ → Result ℕ ℕ
+minute_answer minute = unless_refused (pick (bad_minute minute) 15 0) minute
 
 -- the section at a depth, with whether the depth passes, in the fire that is shown; or the refusal
 unfoldable pub section_answer : Panel → ℕ → Result (Section × Bool) ℕ

@@ -1,10 +1,17 @@
 // Whether boards and lamellae agree, in order, and face, bond, rate, gap and failure time.
 ghost use Rattle.std.specs.Prelude.{◌≡◌, ◌≤◌};
-ghost use Rattle.panel.specs.Builds.{same_lamellae, same_numbers, same_build};
+ghost use Rattle.panel.specs.Builds.{same_cladding, same_lamellae, same_numbers, same_build};
 ghost use Rattle.panel.specs.Lent.{lamellae_in};
 
-use panel::Panel;
+use crate::check::Accepted;
 use panel::lamellae::Lamellae;
+use panel::{Cladding, Panel};
+
+fn same_cladding(a: Cladding, b: Cladding) -> bool
+    ensures { result ≡ same_cladding a b }
+{
+    a == b
+}
 
 fn same_lamellae(a: Lamellae<'_>, b: Lamellae<'_>) -> bool
     ensures { result ≡ same_lamellae (lamellae_in a.entry) (lamellae_in b.entry) }
@@ -22,10 +29,11 @@ fn same_numbers(a: Panel, b: Panel) -> bool
         & (a.failure_time == b.failure_time)
 }
 
-// No open call: both panels must keep the limit of line 10.
-pub(crate) fn is_same_build(a: Panel, b: Panel) -> bool
-    requires { (a.count ≤ 9) × (b.count ≤ 9) }
+pub(crate) fn is_same_build(a: Accepted, b: Accepted) -> bool
     ensures { result ≡ same_build a b }
 {
-    (a.cladding == b.cladding) & same_lamellae(a.lamellae(), b.lamellae()) & same_numbers(a, b)
+    let (a, b) = (a.panel(), b.panel());
+    same_cladding(a.cladding, b.cladding)
+        & same_lamellae(a.lamellae(), b.lamellae())
+        & same_numbers(a, b)
 }

@@ -12,6 +12,7 @@ use section::sums::section_at;
 use section::test::DesignValues;
 
 // Lines 2, 16 and 3 to 13 of a panel: the first that fits.
+#[tactic(auto, using(crate::proofs::FirstLine::handed_on, crate::proofs::FirstLine::goes_on), unfolding(crate::specs::Answers::panel_check, crate::specs::Answers::accepted_answer))]
 pub fn panel_check(p: Panel) -> Result<(), Refusal>
     ensures { by_number result ≡ panel_check p }
 {
@@ -20,6 +21,7 @@ pub fn panel_check(p: Panel) -> Result<(), Refusal>
 }
 
 // The section at a depth in tenths of mm, and whether the depth passes, in the fire that is shown.
+#[tactic(auto, using(crate::proofs::FirstLine::handed_on, crate::proofs::FirstLine::goes_on), unfolding(crate::specs::Answers::section_answer, crate::specs::Answers::accepted_answer))]
 pub fn section(p: Panel, depth: u32) -> Result<(Section, bool), Refusal>
     ensures { by_number result ≡ section_answer p depth }
 {
@@ -29,10 +31,11 @@ pub fn section(p: Panel, depth: u32) -> Result<(Section, bool), Refusal>
 }
 
 // Whether two panels are the same build.
+#[tactic(auto, using(crate::proofs::FirstLine::handed_on, crate::proofs::FirstLine::goes_on), unfolding(crate::specs::Answers::compared, crate::specs::Answers::accepted_answer))]
 pub fn same_build(a: Panel, b: Panel) -> Result<bool, Refusal>
     ensures { by_number result ≡ build_answer a b }
 {
     let first = Accepted::of(a)?;
     let second = Accepted::of(b)?;
-    Ok(is_same_build(first.panel(), second.panel()))
+    Ok(is_same_build(first, second))
 }

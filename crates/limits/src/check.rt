@@ -1,9 +1,11 @@
 // A panel that no line of the table refuses: what every call works on once it has checked its panel.
-ghost use Rattle.std.specs.Prelude.{◌≡◌};
-ghost use Rattle.panel.specs.Faces.{turned, shown};
+ghost use Rattle.std.specs.Prelude.{◌≡◌, ℕ};
+ghost use Rattle.panel.specs.declared.Panel.{Panel};
+ghost use Rattle.panel.specs.Faces.{turned, shown, fires, least_of};
 ghost use Rattle.limits.specs.Numbers.{by_number};
 ghost use Rattle.limits.specs.Lines.{refusal, unless_refused};
 ghost use Rattle.limits.specs.Refusals.{table_lines, panel_refusal};
+ghost use Rattle.limits.specs.Keeps.{Keeps};
 ghost use Rattle.limits.specs.Answers.{accepted_answer};
 
 use crate::refusal::Refusal;
@@ -42,6 +44,14 @@ impl Accepted {
         Ok(Accepted { panel: p })
     }
 
+    // A panel of which it is known. No open call: no line may refuse it.
+    pub fn known(p: Panel) -> Accepted
+        requires { panel_refusal p ≡ 0 }
+        ensures { result ≡ p }
+    {
+        Accepted { panel: p }
+    }
+
     // A panel alone.
     pub fn of(p: Panel) -> Result<Accepted, Refusal>
         ensures { by_number result ≡ accepted_answer p }
@@ -52,6 +62,7 @@ impl Accepted {
     pub fn panel(self) -> Panel
         ensures panel { result ≡ self }
         ensures accepted { panel_refusal result ≡ 0 }
+        ensures keeps { Keeps result }
     {
         self.panel
     }
@@ -72,5 +83,18 @@ impl Accepted {
         Accepted {
             panel: faces::shown(self.panel),
         }
+    }
+
+    // The lesser of what is worked out of each fire, given as the panel that has it on its first face. No open call: it must be worked out
+    // of every accepted panel.
+    pub fn least_of_fires<F: Fn(Accepted) -> u32>(self, of: F) -> u32
+        requires { (p : Panel) → panel_refusal p ≡ 0 → F.pre of p }
+        ensures { (f : Panel → ℕ) → ((p : Panel) (n : ℕ) → F.post of p n → n ≡ f p) → result ≡ least_of f (fires self) }
+    {
+        let first = of(self.shown());
+        if self.panel.face < 2 {
+            return first;
+        }
+        first.min(of(self.turned()))
     }
 }

@@ -6,6 +6,7 @@ mod builds;
 pub mod calls;
 pub mod causes;
 pub mod check;
+pub mod minute;
 pub mod refusal;
 pub mod table;
 

@@ -1,8 +1,6 @@
 -- `limits::calls::section` meets its contract: the section is worked out of a panel that no line refuses. Assumes nothing.
 use Rattle.std.proofs.Common.{◌≡◌, Bool, Ok, ap, ◌∙◌}
-use Rattle.std.proofs.lemmas.Result.{err_from_is_err_and}
-use Rattle.limits.proofs.Accepted.{accepted_fits}
-use Rattle.limits.proofs.FirstLine.{accepted_with, passed_on, goes_on}
+use Rattle.limits.proofs.FirstLine.{accepted_with, goes_on}
 use Rattle.limits.specs.Answers.{section_answer, accepted_answer}
 use Rattle.limits.specs.Refusals.{panel_refusal}
 use Rattle.panel.specs.Faces.{shown}
@@ -15,26 +13,10 @@ use Rattle.section.specs.Tests.{carries, section_at, depth_passes}
 use mathlib.Core.Path.{ap₂}
 use Rattle.limits.proofs.calls.section.Goals as goal
 
-pub returns-in_err-of : goal.returns-in_err-of
-unfolding section_answer accepted_answer
-returns-in_err-of c =
-    let p = err_from_is_err_and c.from_residual.result c.from_residual.ensures.1 in
-    let fire = shown c.args.p in
-    rw (p.1, p.2)
-    (passed_on (panel_refusal c.args.p) c.args.p (Ok (section_at fire c.args.depth, depth_passes fire c.args.depth)) c.in_err-of.ensures)
-
-pub section_at-s-requires : goal.section_at-s-requires
-section_at-s-requires c = accepted_fits c.panel-exposed.result c.panel-exposed.ensures.accepted
-
-pub of-requires-2 : goal.of-requires-2
-of-requires-2 c =
-    let f = accepted_fits c.panel-exposed.result c.panel-exposed.ensures.accepted in
-    (f.moment, f.strength)
-
 pub section_passes-requires : goal.section_passes-requires
 section_passes-requires c =
     let fire = c.panel-exposed.result in
-    let f = accepted_fits fire c.panel-exposed.ensures.accepted in
+    let f = c.panel-exposed.ensures.keeps.section in
     record {
       section_bounds = rw c.section_at-s.ensures (counted_bounds c.args.depth (lamellae fire) f.thickness, nothing_cut c.args.depth (lamellae fire));
     }

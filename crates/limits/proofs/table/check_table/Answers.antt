@@ -1,7 +1,6 @@
 -- `limits::table::check_table` meets its contract: lines 11 to 13 are worked out where the lines above them do not fit. Assumes nothing.
 use Rattle.std.proofs.Common.{Ok, ◌∙◌}
-use Rattle.std.proofs.lemmas.Result.{err_from_is_err_and}
-use Rattle.limits.proofs.FirstLine.{accepted_with, cause_none, refused_above, checked_below}
+use Rattle.limits.proofs.FirstLine.{accepted_with, cause_none, handed_above, checked_below}
 use Rattle.limits.specs.Causes.{bad_count}
 use Rattle.limits.specs.Lines.{down_to, below}
 use Rattle.limits.specs.Refusals.{table_lines}
@@ -11,8 +10,7 @@ use Rattle.limits.proofs.table.check_table.Goals as goal
 pub returns-in_err-check_upper : goal.returns-in_err-check_upper
 returns-in_err-check_upper c =
     let t = table_lines c.args.f c.args.p in
-    let p = err_from_is_err_and c.from_residual.result c.from_residual.ensures.1 in
-    rw (p.1, p.2) (refused_above (down_to 10 t) (below 10 t) tt (Ok tt) c.in_err-check_upper.ensures)
+    handed_above (down_to 10 t) (below 10 t) tt (Ok tt) _ c.from_residual.result c.from_residual.ensures.1 c.in_err-check_upper.ensures
 
 pub check_lower-requires : goal.check_lower-requires
 check_lower-requires c =

@@ -1,8 +1,7 @@
 -- `limits::check::Accepted::in_bytes` meets its contract: a panel is accepted where no line of the table fits. Assumes nothing.
 use Rattle.std.proofs.Common.{refl, Ok}
-use Rattle.std.proofs.lemmas.Result.{err_from_is_err_and}
 use Rattle.limits.proofs.Accepted.{table_accepted}
-use Rattle.limits.proofs.FirstLine.{accepted_with, passed_on, goes_on}
+use Rattle.limits.proofs.FirstLine.{accepted_with, handed_on, goes_on}
 use Rattle.limits.specs.Lines.{refusal}
 use Rattle.limits.specs.Refusals.{table_lines}
 use Rattle.limits.proofs.check.Accepted.in_bytes.Goals as goal
@@ -10,8 +9,7 @@ use Rattle.limits.proofs.check.Accepted.in_bytes.Goals as goal
 pub returns-in_err-check_table : goal.returns-in_err-check_table
 returns-in_err-check_table c =
     let a = c.args in
-    let p = err_from_is_err_and c.from_residual.result c.from_residual.ensures.1 in
-    rw (p.1, p.2) (passed_on (refusal (table_lines a.f a.p)) tt (Ok a.p) c.in_err-check_table.ensures)
+    handed_on (refusal (table_lines a.f a.p)) tt (Ok a.p) _ c.from_residual.result c.from_residual.ensures.1 c.in_err-check_table.ensures
 
 pub invariant_of-result : goal.invariant_of-result
 invariant_of-result c = table_accepted c.args.f c.args.p (accepted_with c.in_ok-check_table.ensures).0
