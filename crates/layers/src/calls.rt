@@ -8,19 +8,20 @@ use limits::check::Accepted;
 use limits::refusal::Refusal;
 use panel::Panel;
 
-#[tactic(auto, using(limits::proofs::FirstLine::handed_on, limits::proofs::FirstLine::worked_out), unfolding(crate::specs::Answers::ei_sum_answer, limits::specs::Answers::accepted_answer))]
 // The sum of the layer times in hundredths of a minute.
+#[tactic(auto, using(limits::proofs::FirstLine::handed_on, limits::proofs::FirstLine::worked_out), unfolding(crate::specs::Answers::ei_sum_answer, limits::specs::Answers::accepted_answer))]
 pub fn ei_sum(p: Panel) -> Result<u32, Refusal>
     ensures { by_number result ≡ ei_sum_answer p }
 {
     let accepted = Accepted::of(p)?;
-    Ok(least_sum_of(accepted.panel()))
+    Ok(least_sum_of(accepted))
 }
 
 // EI in whole minutes.
-pub fn ei(p: Panel) -> Result<u32, Refusal>
+#[tactic(auto, using(limits::proofs::FirstLine::handed_on, limits::proofs::FirstLine::worked_out), unfolding(crate::specs::Answers::ei_answer, limits::specs::Answers::accepted_answer))]
+pub fn ei(p: Panel) -> Result<u16, Refusal>
     ensures { by_number result ≡ ei_answer p }
 {
     let accepted = Accepted::of(p)?;
-    Ok(ei_minute_of(accepted.panel()))
+    Ok(ei_minute_of(accepted).number())
 }

@@ -1,31 +1,24 @@
-// EI of an accepted panel, for calls that have checked the panel's lines.
-ghost use Rattle.std.specs.Prelude.{◌≡◌, ◌≤◌};
-ghost use Rattle.limits.specs.Causes.{last_minute};
-ghost use Rattle.limits.specs.Refusals.{panel_refusal};
+// EI of an accepted panel.
+ghost use Rattle.std.specs.Prelude.{◌≡◌};
 ghost use Rattle.layers.specs.Layers.{printed_ei, least_sum};
 
 use crate::sums::ei_sum_of;
 use basic_times::PARTS_PER_MINUTE;
 use limits::LAST_MINUTE;
-use panel::Panel;
-use panel::faces::{shown, turned};
+use limits::check::Accepted;
+use limits::minute::Minute;
 
-// The sum of the layer times, the lesser of two fires. No open call: no line may turn the panel back.
-pub(crate) fn least_sum_of(p: Panel) -> u32
-    requires { panel_refusal p ≡ 0 }
-    ensures { result ≡ least_sum p }
+// The sum of the layer times, the lesser of two fires.
+pub(crate) fn least_sum_of(accepted: Accepted) -> u32
+    ensures { result ≡ least_sum accepted }
 {
-    let sum = ei_sum_of(shown(p));
-    if p.face < 2 {
-        return sum;
-    }
-    sum.min(ei_sum_of(turned(p)))
+    accepted.least_of_fires(|fire| ei_sum_of(fire.panel()))
 }
 
-// EI in whole minutes, the lesser of two fires. No open call: no line may turn the panel back.
-pub fn ei_minute_of(p: Panel) -> u32
-    requires { panel_refusal p ≡ 0 }
-    ensures { (result ≡ printed_ei p) × (result ≤ last_minute) }
+// EI in whole minutes, the lesser of two fires.
+pub fn ei_minute_of(accepted: Accepted) -> Minute
+    ensures { result ≡ printed_ei accepted }
 {
-    (least_sum_of(p) / PARTS_PER_MINUTE).min(u32::from(LAST_MINUTE))
+    let minutes = least_sum_of(accepted) / PARTS_PER_MINUTE;
+    Minute::of(minutes.min(u32::from(LAST_MINUTE)) as u16)
 }
