@@ -89,7 +89,8 @@ impl Accepted {
     // of every accepted panel.
     pub fn least_of_fires<F: Fn(Accepted) -> u32>(self, of: F) -> u32
         requires { (p : Panel) → panel_refusal p ≡ 0 → F.pre of p }
-        ensures { (f : Panel → ℕ) → ((p : Panel) (n : ℕ) → F.post of p n → n ≡ f p) → result ≡ least_of f (fires self) }
+        ensures least { (f : Panel → ℕ) → ((p : Panel) (n : ℕ) → F.post of p n → n ≡ f p) → result ≡ least_of f (fires self) }
+        ensures accepted { panel_refusal self ≡ 0 }
     {
         let first = of(self.shown());
         if self.panel.face < 2 {

@@ -1,6 +1,5 @@
 // The open calls of this crate: they ask nothing of their caller.
-ghost use Rattle.std.specs.Prelude.{◌≡◌, ◌≤◌};
-ghost use Rattle.limits.specs.Causes.{last_minute};
+ghost use Rattle.std.specs.Prelude.{◌≡◌};
 ghost use Rattle.limits.specs.Numbers.{by_number};
 ghost use Rattle.load.specs.Answers.{load_answer, load_time_answer, reserve_answer, reserve_of};
 
@@ -8,34 +7,36 @@ use crate::MinutesAndSeconds;
 use crate::minutes::{load_minute_of, load_seconds_of, minutes_in, seconds_over};
 use charring::calls::asked;
 use limits::check::Accepted;
+use limits::minute::Minute;
 use limits::refusal::Refusal;
 use panel::Panel;
 
 // The load minute.
+#[tactic(auto, using(limits::proofs::FirstLine::handed_on, limits::proofs::FirstLine::worked_out), unfolding(crate::specs::Answers::load_answer, limits::specs::Answers::accepted_answer))]
 pub fn load_minute(p: Panel) -> Result<u16, Refusal>
     ensures { by_number result ≡ load_answer p }
 {
     let accepted = Accepted::of(p)?;
-    Ok(load_minute_of(accepted.panel()))
+    Ok(load_minute_of(accepted).number())
 }
 
 // The failure time in whole minutes and seconds.
+#[tactic(auto, using(limits::proofs::FirstLine::handed_on, limits::proofs::FirstLine::worked_out), unfolding(crate::specs::Answers::load_time_answer, limits::specs::Answers::accepted_answer))]
 pub fn load_time(p: Panel) -> Result<MinutesAndSeconds, Refusal>
     ensures { by_number result ≡ load_time_answer p }
 {
     let accepted = Accepted::of(p)?;
-    let seconds = load_seconds_of(accepted.panel());
+    let seconds = load_seconds_of(accepted);
     Ok(MinutesAndSeconds {
         minutes: minutes_in(seconds),
         seconds: seconds_over(seconds),
     })
 }
 
-fn reserve_of(load: u16, wanted: u16) -> i32
-    requires { (load ≤ last_minute) × (wanted ≤ last_minute) }
+fn reserve_of(load: Minute, wanted: Minute) -> i32
     ensures { result ≡ reserve_of wanted load }
 {
-    i32::from(load) - i32::from(wanted)
+    i32::from(load.number()) - i32::from(wanted.number())
 }
 
 // The reserve against a wanted minute.
@@ -43,5 +44,5 @@ pub fn reserve(p: Panel, wanted: u16) -> Result<i32, Refusal>
     ensures { by_number result ≡ reserve_answer p wanted }
 {
     let accepted = asked(p, wanted)?;
-    Ok(reserve_of(load_minute_of(accepted.panel()), wanted))
+    Ok(reserve_of(load_minute_of(accepted), Minute::of(wanted)))
 }

@@ -1,6 +1,5 @@
 // Whether a panel passes through a minute. Its failure time is not worked out, and depths are tested many at once.
 ghost use Rattle.std.specs.Prelude.{◌≡◌, ◌≤◌};
-ghost use Rattle.limits.specs.Causes.{last_minute};
 ghost use Rattle.limits.specs.Refusals.{refusal_to12};
 ghost use Rattle.section.specs.Tests.{depth_passes, SectionFits};
 ghost use Rattle.charring.specs.Fits.{FireFits};
@@ -8,6 +7,7 @@ ghost use Rattle.load.specs.LoadMinute.{every_from, time_test};
 ghost use Rattle.load.specs.Lasting.{lasts};
 
 use charring::{Fire, Time};
+use limits::minute::Minute;
 use panel::Panel;
 use panel::faces::{shown, turned};
 use section::sums::section_in;
@@ -47,19 +47,17 @@ fn every_depth_passes(p: Panel, deepest: u64) -> bool
 }
 
 // In the fire on the first face.
-fn fire_lasts(p: Panel, minute: u16) -> bool
-    requires section_fits { SectionFits p × FireFits p }
-    requires minute_le_last_minute { minute ≤ last_minute }
+fn fire_lasts(p: Panel, minute: Minute) -> bool
+    requires { SectionFits p × FireFits p }
     ensures { result ≡ time_test p minute 1 }
 {
-    let depth = Fire::of(p).tenths(Time::minute(u64::from(minute)));
+    let depth = Fire::of(p).tenths(Time::minute(u64::from(minute.number())));
     every_depth_passes(p, u64::from(depth))
 }
 
-// In every fire. No open call: no line above 13 may turn the panel back, and the minute is at most 360.
-pub fn lasts(p: Panel, minute: u16) -> bool
-    requires p_value { refusal_to12 p ≡ 0 }
-    requires minute_le_last_minute { minute ≤ last_minute }
+// In every fire. No open call: no line above 13 may turn the panel back.
+pub fn lasts(p: Panel, minute: Minute) -> bool
+    requires { refusal_to12 p ≡ 0 }
     ensures { result ≡ lasts p minute }
 {
     if !fire_lasts(shown(p), minute) {

@@ -1,30 +1,24 @@
-// The load minute of an accepted panel and the same in seconds, for calls that have checked the panel's lines.
+// The load minute of an accepted panel, and the same in seconds.
 ghost use Rattle.std.specs.Prelude.{◌≡◌};
-ghost use Rattle.limits.specs.Refusals.{panel_refusal};
 ghost use Rattle.load.specs.LoadMinute.{printed_load, load_seconds, printed_load_seconds, minutes_in, seconds_over};
 
 use crate::scan::scan;
-use panel::Panel;
-use panel::faces::{shown, turned};
+use limits::check::Accepted;
+use limits::minute::Minute;
 
 // Of the fire on the first face.
-fn fire_seconds(p: Panel) -> u16
-    requires { panel_refusal p ≡ 0 }
-    ensures { result ≡ load_seconds p }
+fn fire_seconds(fire: Accepted) -> u16
+    ensures { result ≡ load_seconds fire }
 {
-    scan(p)
+    scan(fire.panel())
 }
 
-// The lesser of two fires. No open call: no line may turn the panel back.
-pub fn load_seconds_of(p: Panel) -> u16
-    requires { panel_refusal p ≡ 0 }
-    ensures { result ≡ printed_load_seconds p }
+// The failure time's whole seconds, the lesser of two fires; their whole minutes are the load minute.
+pub fn load_seconds_of(accepted: Accepted) -> u16
+    ensures seconds { result ≡ printed_load_seconds accepted }
+    ensures minutes { minutes_in result ≡ printed_load accepted }
 {
-    let seconds = fire_seconds(shown(p));
-    if p.face < 2 {
-        return seconds;
-    }
-    seconds.min(fire_seconds(turned(p)))
+    accepted.least_of_fires(|fire| u32::from(fire_seconds(fire))) as u16
 }
 
 // The whole minutes in so many seconds.
@@ -41,10 +35,10 @@ pub fn seconds_over(seconds: u16) -> u8
     (seconds % 60) as u8
 }
 
-// The load minute. No open call: no line may turn the panel back.
-pub fn load_minute_of(p: Panel) -> u16
-    requires { panel_refusal p ≡ 0 }
-    ensures { result ≡ printed_load p }
+// The load minute.
+#[tactic(auto, using(crate::proofs::EveryFire::printed_most))]
+pub fn load_minute_of(accepted: Accepted) -> Minute
+    ensures { result ≡ printed_load accepted }
 {
-    minutes_in(load_seconds_of(p))
+    Minute::of(minutes_in(load_seconds_of(accepted)))
 }

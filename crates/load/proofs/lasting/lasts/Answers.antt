@@ -35,10 +35,7 @@ answered p r minute b same e = e ∙ ap (λ (fire : Panel). time_test fire minut
 pub fire_lasts-requires : goal.fire_lasts-requires
 fire_lasts-requires c =
     let p = c.args.p in
-    record {
-      section_fits = subst Fits (sym c.shown.ensures) (shown_holds Fits p.face p (fits p c.requires.p_value) (turned_fits p c.requires.p_value));
-      minute_le_last_minute = c.requires.minute_le_last_minute;
-    }
+    subst Fits (sym c.shown.ensures) (shown_holds Fits p.face p (fits p c.requires) (turned_fits p c.requires))
 
 pub returns-then-not-fire_lasts : goal.returns-then-not-fire_lasts
 unfolding lasts
@@ -63,10 +60,7 @@ returns-then-p-lt2 c =
 
 pub fire_lasts-requires-2 : goal.fire_lasts-requires-2
 fire_lasts-requires-2 c =
-    record {
-      section_fits = subst Fits (sym c.turned.ensures) (turned_fits c.args.p c.requires.p_value);
-      minute_le_last_minute = c.requires.minute_le_last_minute;
-    }
+    subst Fits (sym c.turned.ensures) (turned_fits c.args.p c.requires)
 
 pub returns : goal.returns
 unfolding lasts
@@ -81,7 +75,7 @@ returns c =
     ∙ every_two (λ fire. time_test fire minute 1) p.face p c.if-p-lt2.false
 
 pub shown-requires : goal.shown-requires
-shown-requires c = (to12_keeps c.args.p c.requires.p_value).section.count
+shown-requires c = (to12_keeps c.args.p c.requires).section.count
 
 pub turned-requires : goal.turned-requires
-turned-requires c = (to12_keeps c.args.p c.requires.p_value).section.count
+turned-requires c = (to12_keeps c.args.p c.requires).section.count

@@ -6,8 +6,9 @@ use Rattle.load.proofs.minutes.fire_seconds.Goals as goal
 
 pub scan-requires : goal.scan-requires
 scan-requires c =
-    let p = c.args.p in
+    let p = c.panel.result in
+    let accepted = c.panel.ensures.accepted in
     record {
-      section_fits = (accepted_fits p c.requires, (accepted_thick p c.requires, accepted_passes p c.requires));
-      fire_fits = fire_fits p c.requires;
+      section_fits = (accepted_fits p accepted, (accepted_thick p accepted, accepted_passes p accepted));
+      fire_fits = fire_fits p accepted;
     }

@@ -1,19 +1,19 @@
--- `load::minutes::load_seconds_of` meets its contract: each fire of an accepted panel is that of an accepted one. Assumes nothing.
-use Rattle.limits.proofs.Accepted.{accepted_fits}
-use Rattle.limits.proofs.Turned.{refusal_turned, shown_accepted}
-use Rattle.limits.specs.Refusals.{panel_refusal}
-use mathlib.Core.Path.{ap, ◌∙◌}
+-- `load::minutes::load_seconds_of` meets its contract: the lesser of the fires' seconds is at most 360 minutes. Assumes nothing.
+use Rattle.std.proofs.Common.{◌≡◌, rules, ap, ◌∙◌}
+use native.Mathlib.Omega.{arith}
+use Rattle.load.proofs.EveryFire.{printed_seconds_most, minutes_printed}
+use Rattle.load.specs.LoadMinute.{load_seconds, printed_load_seconds, minutes_in}
 use Rattle.load.proofs.minutes.load_seconds_of.Goals as goal
+use Rattle.load.proofs.minutes.load_seconds_of.Goals.{After-least_of_fires}
 
-pub fire_seconds-seconds-requires : goal.fire_seconds-seconds-requires
-fire_seconds-seconds-requires c = ap panel_refusal c.shown.ensures ∙ shown_accepted c.args.p c.requires
+least : (c : After-least_of_fires) → c.least_of_fires.result ≡ printed_load_seconds c.args.accepted
+least c = c.least_of_fires.ensures.least load_seconds (λ p n k. search rules)
 
-pub fire_seconds-requires : goal.fire_seconds-requires
-fire_seconds-requires c =
-    ap panel_refusal c.turned.ensures ∙ refusal_turned c.args.p ∙ c.requires
+pub overflow_cast-result : goal.overflow_cast-result
+overflow_cast-result c =
+    omega (arith, least (goal.at.overflow_cast-result c).After-least_of_fires, printed_seconds_most c.args.accepted)
 
-pub shown-requires : goal.shown-requires
-shown-requires c = (accepted_fits c.args.p c.requires).count
-
-pub turned-requires : goal.turned-requires
-turned-requires c = (accepted_fits c.args.p c.requires).count
+pub returns-clause-minutes : goal.returns-clause-minutes
+returns-clause-minutes c =
+    ap minutes_in (least (goal.at.returns-clause-minutes c).After-least_of_fires)
+    ∙ minutes_printed c.args.accepted c.least_of_fires.ensures.accepted
