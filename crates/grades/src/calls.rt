@@ -4,15 +4,15 @@ ghost use Rattle.limits.specs.Numbers.{by_number};
 ghost use Rattle.grades.specs.Answers.{grade_answer, rei_answer};
 
 use crate::Grade;
-use limits::LAST_MINUTE;
+use limits::minute::Minute;
 use limits::refusal::Refusal;
-use limits::table::refuse_if;
 
 // The grade of a bare minute.
+#[tactic(auto, using(limits::proofs::FirstLine::handed_on, limits::proofs::FirstLine::worked_out))]
 pub fn grade_of(minute: u16) -> Result<Grade, Refusal>
     ensures { by_number result ≡ grade_answer minute }
 {
-    refuse_if(LAST_MINUTE < minute, Refusal::Minute)?;
+    let minute = Minute::asked(minute)?;
     Ok(Grade::of(minute))
 }
 
@@ -20,6 +20,7 @@ pub fn grade_of(minute: u16) -> Result<Grade, Refusal>
 pub fn rei_of(r: u16, ei: u16) -> Result<Grade, Refusal>
     ensures { by_number result ≡ rei_answer r ei }
 {
-    refuse_if((LAST_MINUTE < r) | (LAST_MINUTE < ei), Refusal::Minute)?;
+    let r = Minute::asked(r)?;
+    let ei = Minute::asked(ei)?;
     Ok(Grade::of_lower(r, ei))
 }

@@ -3,10 +3,11 @@
 
 pub mod calls;
 
-ghost use Rattle.std.specs.Prelude.{◌≡◌, ◌≤◌, nat_le};
+ghost use Rattle.std.specs.Prelude.{◌≡◌, nat_le};
 ghost use Rattle.std.specs.List.{find};
-ghost use Rattle.limits.specs.Causes.{last_minute};
 ghost use Rattle.grades.specs.Grades.{grade_of, rei_of};
+
+use limits::minute::Minute;
 
 // A grade, in minutes; 0 below the least.
 #[derive(Clone, Copy, PartialEq, Eq, PartialOrd, Ord)]
@@ -54,20 +55,18 @@ impl Grade {
         Grade::M10,
     ];
 
-    // The greatest grade that is not above the minute. No open call: a minute above 360 has no grade.
-    pub fn of(minute: u16) -> Grade
-        requires { minute ≤ last_minute }
+    // The greatest grade that is not above the minute.
+    pub fn of(minute: Minute) -> Grade
         ensures { result ≡ grade_of minute }
     {
-        first_to(&Grade::DOWN, minute).unwrap_or(Grade::NONE)
+        first_to(&Grade::DOWN, minute.number()).unwrap_or(Grade::NONE)
     }
 
-    // The grade of the lower of R and EI. No open call: neither is above 360.
-    pub fn of_lower(r: u16, ei: u16) -> Grade
-        requires { (r ≤ last_minute) × (ei ≤ last_minute) }
+    // The grade of the lower of R and EI.
+    pub fn of_lower(r: Minute, ei: Minute) -> Grade
         ensures { result ≡ rei_of r ei }
     {
-        Grade::of(r.min(ei))
+        Grade::of(r.lower(ei))
     }
 }
 
