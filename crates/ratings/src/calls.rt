@@ -12,27 +12,28 @@ use load::minutes::load_minute_of;
 use panel::Panel;
 
 // The grade of the load minute.
+#[tactic(auto, using(limits::proofs::FirstLine::handed_on, limits::proofs::FirstLine::worked_out), unfolding(crate::specs::Answers::graded, limits::specs::Answers::accepted_answer))]
 pub fn load_grade(p: Panel) -> Result<Grade, Refusal>
     ensures { by_number result ≡ graded load_grade p }
 {
     let accepted = Accepted::of(p)?;
-    let load = load_minute_of(accepted.panel());
-    Ok(Grade::of(load))
+    Ok(Grade::of(load_minute_of(accepted)))
 }
 
 // The grade of EI.
+#[tactic(auto, using(limits::proofs::FirstLine::handed_on, limits::proofs::FirstLine::worked_out), unfolding(crate::specs::Answers::graded, limits::specs::Answers::accepted_answer))]
 pub fn ei_grade(p: Panel) -> Result<Grade, Refusal>
     ensures { by_number result ≡ graded ei_grade p }
 {
     let accepted = Accepted::of(p)?;
-    let ei = ei_minute_of(accepted.panel()) as u16;
-    Ok(Grade::of(ei))
+    Ok(Grade::of(ei_minute_of(accepted)))
 }
 
 // The REI grade, of the lower of R and EI.
+#[tactic(auto, using(limits::proofs::FirstLine::handed_on, limits::proofs::FirstLine::worked_out), unfolding(crate::specs::Answers::graded, limits::specs::Answers::accepted_answer))]
 pub fn rei_grade(p: Panel) -> Result<Grade, Refusal>
     ensures { by_number result ≡ graded rei_grade p }
 {
     let accepted = Accepted::of(p)?;
-    Ok(rei_grade_of(accepted.panel()))
+    Ok(rei_grade_of(accepted))
 }
