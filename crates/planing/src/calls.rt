@@ -10,9 +10,10 @@ use limits::refusal::Refusal;
 use panel::Panel;
 
 // The least cut of one lamella that lowers the REI grade, or that no cut does.
+#[tactic(auto, using(limits::proofs::FirstLine::handed_on, limits::proofs::FirstLine::worked_out), unfolding(crate::specs::Answers::planing_answer, limits::specs::Answers::accepted_answer))]
 pub fn planing(p: Panel) -> Result<Option<Cut>, Refusal>
     ensures { by_number result ≡ planing_answer p }
 {
     let accepted = Accepted::of(p)?;
-    Ok(least_cut(accepted.panel()))
+    Ok(least_cut(accepted))
 }

@@ -1,13 +1,10 @@
-// The least cut: by tenths of mm, and for each from the fire on. More taken off may raise EI again, so every amount is tried. No open calls:
-// the panel must be accepted.
+// The least cut: by tenths of mm, and for each from the fire on. More taken off may raise EI again, so every amount is tried.
 ghost use Rattle.std.specs.Prelude.{◌≡◌, ◌≤◌, ◌<◌, MatchOption};
-ghost use Rattle.limits.specs.Refusals.{panel_refusal};
 ghost use Rattle.planing.specs.Answers.{first_behind, most_cut, planing_of};
 
-use crate::cuts::{Rated, index_behind};
+use crate::cuts::Rated;
 use crate::{Cut, MOST_CUT};
-use panel::Panel;
-use ratings::rei::rei_grade_of;
+use limits::check::Accepted;
 
 // Behind how many others the nearest lamella to the fire stands off which so many tenths may be taken and lower the grade.
 fn first_behind(rated: Rated, tenths: u16) -> Option<usize>
@@ -18,18 +15,14 @@ fn first_behind(rated: Rated, tenths: u16) -> Option<usize>
     (0..rated.panel.count).find(|&behind| rated.is_lowering(behind, tenths))
 }
 
-pub(crate) fn least_cut(p: Panel) -> Option<Cut>
-    requires { panel_refusal p ≡ 0 }
-    ensures { result ≡ planing_of p }
+pub(crate) fn least_cut(accepted: Accepted) -> Option<Cut>
+    ensures { result ≡ planing_of accepted }
 {
-    let rated = Rated {
-        panel: p,
-        grade: rei_grade_of(p),
-    };
+    let rated = Rated::of(accepted);
     for tenths in 1..=MOST_CUT {
         if let Some(behind) = first_behind(rated, tenths) {
             return Some(Cut {
-                place: index_behind(p, behind) as u8 + 1,
+                place: rated.index_behind(behind) as u8 + 1,
                 tenths,
             });
         }

@@ -1,28 +1,30 @@
 -- `planing::cuts::is_lowered` meets its contract: neither R nor the grade need be worked out. Assumes nothing.
+use Prim.Native.Nat.{◌≤◌}
+use Rattle.layers.specs.Layers.{printed_ei}
+use Rattle.limits.specs.Causes.{last_minute}
 use Rattle.planing.proofs.Lowering.{fails_lowered, lasting_accepted, lasting_by_ei}
 use lib.Dec.{ltb}
-use borrow.Author.Rules.{rules}
-use mathlib.Core.Path.{◌≡◌, sym, ap₂, ◌∙◌}
+use mathlib.Core.Path.{sym, ap, ap₂, subst, ◌∙◌}
 use Rattle.planing.proofs.cuts.is_lowered.Goals as goal
+use Rattle.planing.proofs.cuts.is_lowered.Goals.{After-number-least}
+
+most : (c : After-number-least) → c.args.minutes ≤ last_minute
+most c = subst (λ n. n ≤ last_minute) c.number-least.ensures.number c.number-least.ensures.most
 
 pub returns-then-not-lasts : goal.returns-then-not-lasts
 returns-then-not-lasts c =
-    let lasting = c.lasts in
     sym
-    (fails_lowered c.args.minutes c.args.q c.requires.minutes_le_last_minute.0 c.requires.minutes_le_last_minute.1 c.requires.q_value
-    (sym lasting.ensures ∙ c.if-not-lasts.true))
+    (fails_lowered c.args.minutes c.args.q (most (goal.at.returns-then-not-lasts c).After-number-least) c.requires.minutes_of_grade c.requires.q_value
+    (sym c.lasts.ensures ∙ c.if-not-lasts.true))
 
-pub ei_minute_of-requires : goal.ei_minute_of-requires
-ei_minute_of-requires c =
-    let lasting = c.lasts in
-    lasting_accepted c.args.minutes c.args.q c.requires.minutes_le_last_minute.0 c.requires.minutes_le_last_minute.1 c.requires.q_value
-    (sym lasting.ensures ∙ c.if-not-lasts.false)
+pub known-requires : goal.known-requires
+known-requires c =
+    lasting_accepted c.args.minutes c.args.q (most (goal.at.known-requires c).After-number-least) c.requires.minutes_of_grade c.requires.q_value
+    (sym c.lasts.ensures ∙ c.if-not-lasts.false)
 
 pub returns : goal.returns
 returns c =
-    let lasting = c.lasts in
-    let same : c.from.result ≡ c.args.minutes = search rules in
-    ap₂ ltb c.ei_minute_of.ensures.0 same
+    ap₂ ltb (c.number.ensures.number ∙ c.ei_minute_of.ensures ∙ ap printed_ei c.known.ensures) c.number-least.ensures.number
     ∙ sym
-    (lasting_by_ei c.args.minutes c.args.q c.requires.minutes_le_last_minute.0 c.requires.minutes_le_last_minute.1 c.requires.q_value
-    (sym lasting.ensures ∙ c.if-not-lasts.false))
+    (lasting_by_ei c.args.minutes c.args.q (most (goal.at.returns c).After-number-least) c.requires.minutes_of_grade c.requires.q_value
+    (sym c.lasts.ensures ∙ c.if-not-lasts.false))

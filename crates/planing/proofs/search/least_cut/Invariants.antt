@@ -4,4 +4,4 @@ use Rattle.planing.proofs.Searching.{NoneFor}
 use Rattle.planing.proofs.search.least_cut.Given as goal
 
 abbrev pub invariant-loop-tenths : goal.invariant-loop-tenths
-invariant-loop-tenths l = (k : ℕ) → k < l.tenths → NoneFor l.p k
+invariant-loop-tenths l = (k : ℕ) → k < l.tenths → NoneFor l.rated.panel k

@@ -3,7 +3,6 @@
 use Prim.Native.Nat.{ℕ, suc, ◌+◌, ◌<◌, ◌≤◌}
 use Rattle.grades.specs.Grades.{grade_of}
 use Rattle.grades.specs.declared.Grade.{Grade}
-use Rattle.limits.proofs.Accepted.{accepted_fits}
 use Rattle.limits.proofs.Unused.{to12_unused}
 use Rattle.limits.specs.Causes.{last_minute}
 use Rattle.panel.specs.declared.Panel.{Panel}
@@ -42,31 +41,35 @@ module _ (p : Panel) (at tenths : ℕ) (h : at < p.count) (some : 0 < tenths) wh
 
 pub index_behind-at-requires : goal.index_behind-at-requires
 index_behind-at-requires c =
-    let x = c.args.self in (c.requires.behind_lt_count, (accepted_fits x.panel x.accepted).count)
+    let x = c.args.self in c.requires.behind_lt_count
 
-pub returns-then-p-at : goal.returns-then-p-at
-returns-then-p-at c =
+pub returns-then-self-at : goal.returns-then-self-at
+returns-then-self-at c =
     let p = c.args.self.panel in
     let at = c.index_behind-at in
     sym
     (ap (λ (b : Bool). b && lowered (rei_grade p).minutes (cut_panel p (cut_of at.result c.args.tenths)))
-    (too_thin p at.result c.args.tenths at.ensures.1.0 c.requires.tenths_nonzero.0 c.if-p-at.true))
-    ∙ placed p c.args.tenths c.args.behind at.result at.ensures.0
+    (too_thin p at.result c.args.tenths at.ensures.within.0 c.requires.tenths_nonzero.0 c.if-self-at.true))
+    ∙ placed p c.args.tenths c.args.behind at.result at.ensures.place
 
 pub cut_panel-requires : goal.cut_panel-requires
 cut_panel-requires c =
     let x = c.args.self in record {
-      at_lt_count = (c.index_behind-at.ensures.1.0, (accepted_fits x.panel x.accepted).count);
-      tenths_bound = omega (arith, c.if-p-at.false);
+      at_lt_count = c.index_behind-at.ensures.within.0;
+      tenths_bound = omega (arith, c.if-self-at.false);
     }
+
+pub of-requires : goal.of-requires
+of-requires c =
+    subst (λ (g : Grade). g.minutes ≤ last_minute) (sym c.args.self.by_rei) (rei_is_grade c.args.self.panel).0
 
 pub is_lowered-requires : goal.is_lowered-requires
 is_lowered-requires c =
     let x = c.args.self in
     let at = c.index_behind-at in
     let cut = cut_of at.result c.args.tenths in
-    let kept = thick_enough x.panel at.result c.args.tenths at.ensures.1.0 c.requires.tenths_nonzero.0 c.if-p-at.false in record {
-      minutes_le_last_minute = subst (λ (g : Grade). (g.minutes ≤ last_minute) × ((grade_of g.minutes).minutes ≡ g.minutes)) (sym x.by_rei) (rei_is_grade x.panel);
+    let kept = thick_enough x.panel at.result c.args.tenths at.ensures.within.0 c.requires.tenths_nonzero.0 c.if-self-at.false in record {
+      minutes_of_grade = rw c.of.ensures (subst (λ (g : Grade). (grade_of g.minutes).minutes ≡ g.minutes) (sym x.by_rei) (rei_is_grade x.panel).1);
       q_value = to12_unused c.cut_panel.result (cut_panel x.panel cut) c.cut_panel.ensures ∙ cut_to12 x.panel cut x.accepted kept;
     }
 
@@ -76,9 +79,9 @@ returns c =
     let p = x.panel in
     let at = c.index_behind-at in
     let cut = cut_of at.result c.args.tenths in
-    let kept = thick_enough p at.result c.args.tenths at.ensures.1.0 c.requires.tenths_nonzero.0 c.if-p-at.false in
+    let kept = thick_enough p at.result c.args.tenths at.ensures.within.0 c.requires.tenths_nonzero.0 c.if-self-at.false in
     c.is_lowered.ensures
     ∙ lowered_same _ c.cut_panel.result (cut_panel p cut) c.cut_panel.ensures
-    ∙ ap (λ (g : Grade). lowered g.minutes (cut_panel p cut)) x.by_rei
+    ∙ ap (λ (m : ℕ). lowered m (cut_panel p cut)) (c.of.ensures ∙ ap (λ (g : Grade). g.minutes) x.by_rei)
     ∙ sym (ap (λ (b : Bool). b && lowered (rei_grade p).minutes (cut_panel p cut)) kept)
-    ∙ placed p c.args.tenths c.args.behind at.result at.ensures.0
+    ∙ placed p c.args.tenths c.args.behind at.result at.ensures.place
