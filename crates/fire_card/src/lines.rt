@@ -9,6 +9,7 @@ use charring::{Fire, Time};
 use grades::Grade;
 use layers::minutes::ei_minute_of;
 use limits::check::Accepted;
+use limits::minute::Minute;
 use load::minutes::{load_seconds_of, minutes_in, seconds_over};
 
 fn push_char(text: &mut Text<CARD_MOST>, fire: &Fire, minute: u32)
@@ -32,41 +33,39 @@ fn push_chars(text: &mut Text<CARD_MOST>, fire: &Fire)
     }
 }
 
-fn push_load(text: &mut Text<CARD_MOST>, load: u16, seconds: u16)
-    requires load_le_last_minute { load ≤ last_minute }
-    requires room { length text.old + 41 ≤ card_most }
+fn push_load(text: &mut Text<CARD_MOST>, load: Minute, seconds: u16)
+    requires { length text.old + 41 ≤ card_most }
     ensures added { text.new ≡ text.old ++ load_lines load seconds }
     ensures most { length text.new ≤ length text.old + 41 }
 {
     let r = Grade::of(load);
-    text.push_line(b"R", &[u32::from(load), u32::from(r.minutes)]);
+    text.push_line(b"R", &[u32::from(load.number()), u32::from(r.minutes)]);
     let minutes = u32::from(minutes_in(seconds));
     text.push_time(b"RS", minutes, seconds_over(seconds));
 }
 
-fn push_ratings(text: &mut Text<CARD_MOST>, load: u16, seconds: u16, ei: u16)
-    requires load_le_last_minute { (load ≤ last_minute) × (ei ≤ last_minute) }
-    requires room { length text.old + 81 ≤ card_most }
+fn push_ratings(text: &mut Text<CARD_MOST>, load: Minute, seconds: u16, ei: Minute)
+    requires { length text.old + 81 ≤ card_most }
     ensures { text.new ≡ text.old ++ rating_lines load seconds ei }
 {
     let e = Grade::of(ei);
     let both = Grade::of_lower(load, ei);
     push_load(text, load, seconds);
-    text.push_line(b"EI", &[u32::from(ei), u32::from(e.minutes)]);
+    text.push_line(b"EI", &[u32::from(ei.number()), u32::from(e.minutes)]);
     text.push_line(b"REI", &[u32::from(both.minutes)]);
 }
 
 // The whole card.
+#[tactic(auto, using(load::proofs::EveryFire::printed_most))]
 pub(crate) fn text_of_card(accepted: Accepted) -> Text<CARD_MOST>
     ensures { result ≡ text_of_card accepted }
 {
-    let panel = accepted.panel();
-    let seconds = load_seconds_of(panel);
-    let load = minutes_in(seconds);
-    let ei = ei_minute_of(panel);
+    let seconds = load_seconds_of(accepted);
+    let load = Minute::of(minutes_in(seconds));
+    let ei = ei_minute_of(accepted);
     let mut text = Text::new();
-    text.push_line(b"CARD", &[u32::from(panel.version)]);
+    text.push_line(b"CARD", &[u32::from(accepted.panel().version)]);
     push_chars(&mut text, &Fire::of(accepted.shown().panel()));
-    push_ratings(&mut text, load, seconds, ei as u16);
+    push_ratings(&mut text, load, seconds, ei);
     text
 }

@@ -230,16 +230,17 @@ not_fitting false refusal e = refl
 pub worked_out : {A B : Type 0} (n : ℕ) (f : A → B) (value : A) {x : A} {y : B} → Ok x ≡ unless_refused n value → y ≡ f x → Ok y ≡ unless_refused n (f value)
 worked_out n f value e e' = goes_on n value e (ap Ok (e' ∙ ap f (accepted_with e).1))
 
--- what `?` hands on, as the call answers it
+-- what `?` hands on is the refusal, and what that is for the call
+pub handed : {B : Type 0} (e : Refusal) (r : Result B Refusal) → IsErrAnd r (λ y. y ≡ e) → by_number r ≡ Err (line_number e)
+handed e r h = let p = err_from_is_err_and r h in rw (p.1, p.2) refl
+
 pub handed_on :
     {A B : Type 0} (n : ℕ) (value : A) (other : Result B ℕ) (e : Refusal) (r : Result B Refusal) → IsErrAnd r (λ y. y ≡ e)
     → Err (line_number e) ≡ unless_refused n value → by_number r ≡ answer n Err other
-handed_on n value other e r h k =
-    let p = err_from_is_err_and r h in rw (p.1, p.2) (passed_on n value other k)
+handed_on n value other e r h k = handed e r h ∙ passed_on n value other k
 
--- the same below a table, with further lines below it
+-- the same of a table, with further lines below it
 pub handed_above :
     {A B : Type 0} (table further : List Line) (value : A) (other : Result B ℕ) (e : Refusal) (r : Result B Refusal) → IsErrAnd r (λ y. y ≡ e)
     → Err (line_number e) ≡ unless_refused (refusal table) value → by_number r ≡ answer (refusal (table ++ further)) Err other
-handed_above table further value other e r h k =
-    let p = err_from_is_err_and r h in rw (p.1, p.2) (refused_above table further value other k)
+handed_above table further value other e r h k = handed e r h ∙ refused_above table further value other k

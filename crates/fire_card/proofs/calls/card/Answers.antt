@@ -1,10 +1,9 @@
 -- `fire_card::calls::card` meets its contract: the card of an accepted record, made aside and then delivered. Assumes nothing.
 use Rattle.std.proofs.Common.{ℕ, List, [], sym, ap, ◌∙◌}
-use Rattle.std.proofs.lemmas.Result.{err_from_is_err_and}
 use Rattle.fire_card.proofs.Texts.{text_refused, text_delivered}
 use Rattle.fire_card.specs.Answers.{text_answer, text_after}
 use Rattle.fire_card.specs.Card.{text_of_card}
-use Rattle.limits.proofs.FirstLine.{accepted_with, refused_with}
+use Rattle.limits.proofs.FirstLine.{accepted_with, refused_with, handed}
 use Rattle.record.specs.Answers.{decode}
 use Rattle.record.specs.Layouts.{panel_of}
 use Rattle.record.specs.Refusals.{record_lines, record_refusal}
@@ -14,10 +13,9 @@ pub returns-in_err-accepted : goal.returns-in_err-accepted
 unfolding decode record_refusal
 returns-in_err-accepted c =
     let b = c.args.bytes.now in
-    let p = err_from_is_err_and c.from_residual.result c.from_residual.ensures.1 in
     let h = refused_with (panel_of b) c.in_err-accepted.ensures in
     let both = text_refused (record_lines b) (text_of_card (panel_of b)) c.args.out.now h.0 (λ z. h.1 (sym h.0 ∙ z)) in
-    record { value = rw (p.1, p.2) both.0; out_after = both.1 }
+    record { value = handed _ c.from_residual.result c.from_residual.ensures.1 ∙ both.0; out_after = both.1 }
 
 pub returns : goal.returns
 unfolding decode record_refusal

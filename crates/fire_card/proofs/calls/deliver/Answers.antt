@@ -1,9 +1,8 @@
 -- `fire_card::calls::deliver` meets its contract: a text that does not fit changes nothing. Assumes nothing.
 use Rattle.std.proofs.Common.{length, drop, List, [], ℕ, ◌++◌, refl, sym, ap, ◌∙◌}
-use Rattle.std.proofs.lemmas.Result.{err_from_is_err_and}
 use Rattle.fire_card.proofs.Texts.{text_refused_so, text_fits}
 use Rattle.fire_card.specs.Answers.{text_refusal}
-use Rattle.limits.proofs.FirstLine.{refused_with, call_line, not_fitting}
+use Rattle.limits.proofs.FirstLine.{refused_with, handed, call_line, not_fitting}
 use Rattle.limits.specs.declared.refusal.Refusal.TheVariants.{Space}
 use borrow.Author.Tests.{ltb-false}
 use lib.Dec.{ltb}
@@ -14,10 +13,9 @@ unfolding text_refusal
 returns-in_err-refuse_if c =
     let text = c.args.text.now in
     let space = c.args.out.now in
-    let p = err_from_is_err_and c.from_residual.result c.from_residual.ensures.1 in
     let h = refused_with tt (call_line [] tt refl (ltb (length space) (length text)) Space c.in_err-refuse_if.ensures) in
     let both = text_refused_so [] text space h.0 (λ z. h.1 (sym h.0 ∙ z)) in
-    record { value = rw (p.1, p.2) both.0; out_after = both.1 }
+    record { value = handed _ c.from_residual.result c.from_residual.ensures.1 ∙ both.0; out_after = both.1 }
 
 pub returns : goal.returns
 returns c =
