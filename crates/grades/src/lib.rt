@@ -9,7 +9,8 @@ ghost use Rattle.grades.specs.Grades.{grade_of, rei_of};
 
 use limits::minute::Minute;
 
-// A grade, in minutes; 0 below the least.
+// A grade, in minutes; 0 below the least, which is kept as it is: the papers print it, and `NONE` names it. A grade stays as it is beside
+// limits' `Minute`: not every minute is a grade.
 #[derive(Clone, Copy, PartialEq, Eq, PartialOrd, Ord)]
 pub struct Grade {
     pub minutes: u16,

@@ -20,5 +20,6 @@ pub fn ei_minute_of(accepted: Accepted) -> Minute
     ensures { result ≡ printed_ei accepted }
 {
     let minutes = least_sum_of(accepted) / PARTS_PER_MINUTE;
+    // The cast is kept as it is: `try_from` would add a branch that never runs.
     Minute::of(minutes.min(u32::from(LAST_MINUTE)) as u16)
 }

@@ -54,5 +54,6 @@ pub(crate) fn layer_time(before: u32, basic: u32, joint: u8) -> u32
         before: u64::from(before),
         basic: u64::from(basic),
     };
+    // The cast is kept as it is: `try_from` would add a branch that never runs.
     (step.position() * u64::from(joint) / u64::from(WHOLE_JOINT)) as u32
 }

@@ -7,18 +7,21 @@ use crate::check::Accepted;
 use panel::lamellae::Lamellae;
 use panel::{Cladding, Panel};
 
+// Equality stays as it is in these four: the same build leaves fields out and goes by the used places, so that a panel derives none.
 fn same_cladding(a: Cladding, b: Cladding) -> bool
     ensures { result ≡ same_cladding a b }
 {
     a == b
 }
 
+// Stays as it is: see above.
 fn same_lamellae(a: Lamellae<'_>, b: Lamellae<'_>) -> bool
     ensures { result ≡ same_lamellae (lamellae_in a.entry) (lamellae_in b.entry) }
 {
     (a.directions == b.directions) & (a.thicknesses == b.thicknesses)
 }
 
+// Stays as it is: see above. Two panels to compare are kept as they are, too: no pair of which anything else is asked.
 fn same_numbers(a: Panel, b: Panel) -> bool
     ensures { result ≡ same_numbers a b }
 {
@@ -29,6 +32,7 @@ fn same_numbers(a: Panel, b: Panel) -> bool
         & (a.failure_time == b.failure_time)
 }
 
+// Stays as it is: see above.
 pub(crate) fn is_same_build(a: Accepted, b: Accepted) -> bool
     ensures { result ≡ same_build a b }
 {

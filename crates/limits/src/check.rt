@@ -36,7 +36,8 @@ impl Model for Accepted {
 }
 
 impl Accepted {
-    // A panel that stands in bytes: the panel, or the first line that fits.
+    // A panel that stands in bytes: the panel, or the first line that fits. What the bytes say and the panel are kept as they are, two
+    // parameters: the reader makes each by itself.
     pub fn in_bytes(f: ByteFaults, p: Panel) -> Result<Accepted, Refusal>
         ensures { by_number result ≡ unless_refused (refusal (table_lines f p)) p }
     {
@@ -67,7 +68,7 @@ impl Accepted {
         self.panel
     }
 
-    // The panel with its last face first.
+    // The panel with its last face first. `turned` and `shown` are kept as they are: each meets a definition of its own.
     pub fn turned(self) -> Accepted
         ensures { result ≡ turned self }
     {
@@ -76,7 +77,7 @@ impl Accepted {
         }
     }
 
-    // The panel whose depths and section are shown.
+    // The panel whose depths and section are shown. It stays as it is beside `turned`.
     pub fn shown(self) -> Accepted
         ensures { result ≡ shown self }
     {
@@ -86,7 +87,7 @@ impl Accepted {
     }
 
     // The lesser of what is worked out of each fire, given as the panel that has it on its first face. No open call: it must be worked out
-    // of every accepted panel.
+    // of every accepted panel. The face is kept as it is, a raw number of the panel.
     pub fn least_of_fires<F: Fn(Accepted) -> u32>(self, of: F) -> u32
         requires { (p : Panel) → panel_refusal p ≡ 0 → F.pre of p }
         ensures least { (f : Panel → ℕ) → ((p : Panel) (n : ℕ) → F.post of p n → n ≡ f p) → result ≡ least_of f (fires self) }

@@ -13,12 +13,13 @@ pub mod table;
 // The last minute that a call may be asked for, and that a card gives.
 pub const LAST_MINUTE: u16 = 360;
 
-// What a record's bytes say beside its panel: which of lines 1 and 6 fit, and whether line 10 fits by the record's length.
+// What a record's bytes say beside its panel: which of lines 1 and 6 fit, and whether line 10 fits by the record's length. The three flags
+// are kept as they are: any of them may hold beside the others, so that they are no kinds of one fault.
 #[derive(Clone, Copy)]
 pub struct ByteFaults {
-    pub length: bool,
-    pub board_count: bool,
-    pub lamella_count: bool,
+    pub length: bool, // stays as it is
+    pub board_count: bool, // stays as it is
+    pub lamella_count: bool, // stays as it is
 }
 
 // A panel alone has no bytes.

@@ -9,7 +9,7 @@ use crate::refusal::Refusal;
 use crate::table::refuse_if;
 use std::marker::Model;
 
-// In clauses it is the number.
+// In clauses it is the number. It stays as it is beside grades' `Grade`: not every minute is a grade.
 #[derive(Clone, Copy)]
 pub struct Minute {
     number: u16,

@@ -55,7 +55,8 @@ fn fire_lasts(p: Panel, minute: Minute) -> bool
     every_depth_passes(p, u64::from(depth))
 }
 
-// In every fire. No open call: no line above 13 may turn the panel back.
+// In every fire. No open call: no line above 13 may turn the panel back. It stays as it is beside `Accepted::least_of_fires`: line 13 may
+// refuse the panel, and where the first fire fails the second is not looked at. The face is kept as it is, a raw number of the panel.
 pub fn lasts(p: Panel, minute: Minute) -> bool
     requires { refusal_to12 p ≡ 0 }
     ensures { result ≡ lasts p minute }

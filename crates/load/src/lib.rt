@@ -7,7 +7,7 @@ pub mod lasting;
 pub mod minutes;
 mod scan;
 
-// A time in whole minutes and seconds, from 0:00 to 360:00.
+// A time in whole minutes and seconds, from 0:00 to 360:00. It stays as it is beside planing's `Cut`: two numbers too, of other things.
 #[derive(Clone, Copy, Debug, PartialEq, Eq)]
 pub struct MinutesAndSeconds {
     pub minutes: u16,

@@ -18,6 +18,7 @@ pub fn load_seconds_of(accepted: Accepted) -> u16
     ensures seconds { result ≡ printed_load_seconds accepted }
     ensures minutes { minutes_in result ≡ printed_load accepted }
 {
+    // The cast is kept as it is: `try_from` would add a branch that never runs.
     accepted.least_of_fires(|fire| u32::from(fire_seconds(fire))) as u16
 }
 
@@ -32,6 +33,7 @@ pub fn minutes_in(seconds: u16) -> u16
 pub fn seconds_over(seconds: u16) -> u8
     ensures { result ≡ seconds_over seconds }
 {
+    // The cast is kept as it is: `try_from` would add a branch that never runs.
     (seconds % 60) as u8
 }
 

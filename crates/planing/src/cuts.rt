@@ -49,7 +49,8 @@ impl Rated {
         }
     }
 
-    // The index of the lamella behind so many others as seen from the fire: its place less 1.
+    // The index of the lamella behind so many others as seen from the fire: its place less 1. The face is kept as it is, a raw number of the
+    // panel; so is what is asked of `behind`: another number is asked in each of these methods.
     pub(crate) fn index_behind(self, behind: usize) -> usize
         requires { behind < self.panel.count }
         ensures place { result + 1 ≡ place_on self.panel.face self.panel.count behind }
@@ -62,7 +63,7 @@ impl Rated {
         }
     }
 
-    // The cut panel; its unused places are the panel's.
+    // The cut panel; its unused places are the panel's. What is asked of `at` stays as it is.
     fn cut_panel(self, at: usize, tenths: u16) -> Panel
         requires at_lt_count { at < self.panel.count }
         requires tenths_bound { tenths ≤ get_or self.panel.thicknesses at 0 }
@@ -73,7 +74,8 @@ impl Rated {
         cut
     }
 
-    // Whether so many tenths may be taken off the lamella behind so many others as seen from the fire, and lower the grade.
+    // Whether so many tenths may be taken off the lamella behind so many others as seen from the fire, and lower the grade. What is asked of
+    // `behind` stays as it is.
     pub(crate) fn is_lowering(self, behind: usize, tenths: u16) -> bool
         requires behind_lt_count { behind < self.panel.count }
         requires tenths_nonzero { (0 < tenths) × (tenths ≤ most_cut) }

@@ -22,6 +22,7 @@ pub(crate) fn least_cut(accepted: Accepted) -> Option<Cut>
     for tenths in 1..=MOST_CUT {
         if let Some(behind) = first_behind(rated, tenths) {
             return Some(Cut {
+                // The cast is kept as it is: `try_from` would add a branch that never runs.
                 place: rated.index_behind(behind) as u8 + 1,
                 tenths,
             });
