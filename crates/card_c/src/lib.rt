@@ -10,6 +10,7 @@ ghost use Rattle.card_c.specs.Planing.{record_planing, exported_cut};
 
 use limits::refusal::Refusal;
 use planing::Cut;
+use planing::search::least_cut;
 
 // An answer as one number. No open call: the bytes written must be those of a card at most.
 fn number_of(answer: Result<usize, Refusal>) -> i32
@@ -39,11 +40,12 @@ pub fn yurbantse_refusal(n: u8, out: &mut [u8]) -> i32
 }
 
 // The least cut of the panel that stands in a record.
+#[tactic(auto, using(limits::proofs::FirstLine::handed_on, limits::proofs::FirstLine::worked_out), unfolding(crate::specs::Planing::record_planing, record::specs::Answers::decode))]
 fn planing_of(bytes: &[u8]) -> Result<Option<Cut>, Refusal>
     ensures { by_number result ≡ record_planing bytes.now }
 {
     let accepted = record::calls::read(bytes)?;
-    planing::calls::planing(accepted.panel())
+    Ok(least_cut(accepted))
 }
 
 // An answer as one number.

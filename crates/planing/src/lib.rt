@@ -3,7 +3,7 @@
 
 pub mod calls;
 mod cuts;
-mod search;
+pub mod search;
 
 // Tenths of mm that a lamella keeps.
 pub(crate) const LEAST_KEPT: u16 = 100;

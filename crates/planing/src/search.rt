@@ -15,7 +15,8 @@ fn first_behind(rated: Rated, tenths: u16) -> Option<usize>
     (0..rated.panel.count).find(|&behind| rated.is_lowering(behind, tenths))
 }
 
-pub(crate) fn least_cut(accepted: Accepted) -> Option<Cut>
+// The least cut of one lamella that lowers the REI grade, or that no cut does.
+pub fn least_cut(accepted: Accepted) -> Option<Cut>
     ensures { result ≡ planing_of accepted }
 {
     let rated = Rated::of(accepted);

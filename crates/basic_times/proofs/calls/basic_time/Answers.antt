@@ -1,8 +1,8 @@
 -- `basic_times::calls::basic_time` meets its contract: the test decides between the refusal and the table. Assumes nothing.
 use Rattle.std.proofs.Common.{◌≡◌, ℕ, Bool, true, false, Result, Ok, Err, refl, ap, ◌∙◌}
-use Rattle.std.proofs.lemmas.Result.{err_from_is_err_and}
 use Rattle.basic_times.specs.Answers.{bare_line, time_answer}
 use Rattle.basic_times.specs.Rules.{basic_time}
+use Rattle.limits.proofs.FirstLine.{handed}
 use Rattle.limits.specs.Numbers.{line_number, by_number, refused_if}
 use Rattle.limits.specs.declared.refusal.Refusal.{Refusal}
 use Rattle.panel.specs.Materials.{bad_thickness}
@@ -19,10 +19,9 @@ pub returns-in_err-refuse_if : goal.returns-in_err-refuse_if
 unfolding time_answer
 returns-in_err-refuse_if c =
     let a = c.args in
-    let p = err_from_is_err_and c.from_residual.result c.from_residual.ensures.1 in
-    rw (p.1, p.2)
-    (decided (bad_thickness a.m a.h) c.bare_line.result (bare_line a.m) (basic_time a.role a.m a.h)
-    (rw c.bad_thickness.ensures at c.in_err-refuse_if.ensures) c.bare_line.ensures)
+    handed _ c.from_residual.result c.from_residual.ensures.1
+    ∙ decided (bad_thickness a.m a.h) c.bare_line.result (bare_line a.m) (basic_time a.role a.m a.h)
+    (rw c.bad_thickness.ensures at c.in_err-refuse_if.ensures) c.bare_line.ensures
 
 pub returns : goal.returns
 unfolding time_answer

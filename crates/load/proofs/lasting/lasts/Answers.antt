@@ -1,6 +1,5 @@
 -- `load::lasting::lasts` meets its contract: each fire of a panel that no line above 13 turns back is that of such a panel.
 -- Assumes nothing.
-use Prim.Native.Nat.{ℕ}
 use Rattle.charring.proofs.Accepted.{fire_part}
 use Rattle.charring.specs.Fits.{FireFits}
 use Rattle.limits.proofs.Accepted.{to12_keeps}
@@ -17,6 +16,7 @@ use Rattle.section.specs.Tests.{SectionFits}
 use mathlib.Core.Bool.{Bool, ◌&&◌}
 use mathlib.Core.Path.{◌≡◌, sym, ap, ap₂, subst, ◌∙◌}
 use Rattle.load.proofs.lasting.lasts.Goals as goal
+use Rattle.load.proofs.lasting.lasts.Goals.{After-fire_lasts}
 
 -- what a fire asks for
 abbrev Fits : Panel → Type 0
@@ -28,9 +28,9 @@ fits p e = ((to12_keeps p e).section, fire_part p (to12_keeps p e))
 turned_fits : (p : Panel) → refusal_to12 p ≡ 0 → Fits (turned p)
 turned_fits p e = fits (turned p) (to12_turned p ∙ e)
 
--- what is answered of a fire that was worked out
-answered : (p r : Panel) (minute : ℕ) (b : Bool) → r ≡ p → b ≡ time_test r minute 1 → b ≡ time_test p minute 1
-answered p r minute b same e = e ∙ ap (λ (fire : Panel). time_test fire minute 1) same
+-- what is answered of the fire that is shown
+first : (c : After-fire_lasts) → c.fire_lasts.result ≡ time_test (shown c.args.p) c.args.minute 1
+first c = c.fire_lasts.ensures ∙ ap (λ (fire : Panel). time_test fire c.args.minute 1) c.shown.ensures
 
 pub fire_lasts-requires : goal.fire_lasts-requires
 fire_lasts-requires c =
@@ -40,11 +40,9 @@ fire_lasts-requires c =
 pub returns-then-not-fire_lasts : goal.returns-then-not-fire_lasts
 unfolding lasts
 returns-then-not-fire_lasts c =
-    let one = c.fire_lasts in
     let p = c.args.p in
     let minute = c.args.minute in
-    let first = answered (shown p) c.shown.result minute one.result c.shown.ensures one.ensures in
-    let fails = sym first ∙ c.if-not-fire_lasts.true in
+    let fails = sym (first (goal.at.returns-then-not-fire_lasts c).After-fire_lasts) ∙ c.if-not-fire_lasts.true in
     sym
     (not_true_false (lasts p minute)
     (λ t. not_both (time_test (shown p) minute 1) (every_shown (λ fire. time_test fire minute 1) p.face p t) fails))
@@ -52,11 +50,9 @@ returns-then-not-fire_lasts c =
 pub returns-then-p-lt2 : goal.returns-then-p-lt2
 unfolding lasts
 returns-then-p-lt2 c =
-    let one = c.fire_lasts in
-    let p = c.args.p in
-    let minute = c.args.minute in
-    let first = answered (shown p) c.shown.result minute one.result c.shown.ensures one.ensures in
-    sym (c.if-not-fire_lasts.false) ∙ first ∙ every_one (λ fire. time_test fire minute 1) p.face p c.if-p-lt2.true
+    sym c.if-not-fire_lasts.false
+    ∙ first (goal.at.returns-then-p-lt2 c).After-fire_lasts
+    ∙ every_one (λ fire. time_test fire c.args.minute 1) c.args.p.face c.args.p c.if-p-lt2.true
 
 pub fire_lasts-requires-2 : goal.fire_lasts-requires-2
 fire_lasts-requires-2 c =
@@ -65,14 +61,10 @@ fire_lasts-requires-2 c =
 pub returns : goal.returns
 unfolding lasts
 returns c =
-    let other = c.fire_lasts-2 in
-    let one = c.fire_lasts in
-    let p = c.args.p in
-    let minute = c.args.minute in
-    let first = answered (shown p) c.shown.result minute one.result c.shown.ensures one.ensures in
-    let second = answered (turned p) c.turned.result minute other.result c.turned.ensures other.ensures in
-    ap₂ (λ (a b : Bool). a && b) (sym (c.if-not-fire_lasts.false) ∙ first) second
-    ∙ every_two (λ fire. time_test fire minute 1) p.face p c.if-p-lt2.false
+    let passes = λ (fire : Panel). time_test fire c.args.minute 1 in
+    ap₂ (λ (a b : Bool). a && b) (sym c.if-not-fire_lasts.false ∙ first (goal.at.returns c).After-fire_lasts)
+    (c.fire_lasts-2.ensures ∙ ap passes c.turned.ensures)
+    ∙ every_two passes c.args.p.face c.args.p c.if-p-lt2.false
 
 pub shown-requires : goal.shown-requires
 shown-requires c = (to12_keeps c.args.p c.requires).section.count
