@@ -6,10 +6,7 @@ use Rattle.limits.proofs.FirstLine.{accepted_with, passed_on, goes_on}
 use Rattle.limits.specs.Answers.{section_answer, accepted_answer}
 use Rattle.limits.specs.Refusals.{panel_refusal}
 use Rattle.panel.specs.Faces.{shown}
-use Rattle.panel.specs.Lamellae.{lamellae}
 use Rattle.panel.specs.declared.Panel.{Panel}
-use Rattle.section.proofs.Chains.{counted_bounds}
-use Rattle.section.proofs.NothingCut.{nothing_cut}
 use Rattle.section.specs.declared.Section.{Section}
 use Rattle.section.specs.Tests.{carries, section_at, depth_passes}
 use mathlib.Core.Path.{ap₂}
@@ -30,14 +27,6 @@ pub of-requires-2 : goal.of-requires-2
 of-requires-2 c =
     let f = accepted_fits c.panel-exposed.result c.panel-exposed.ensures.accepted in
     (f.moment, f.strength)
-
-pub section_passes-requires : goal.section_passes-requires
-section_passes-requires c =
-    let fire = c.panel-exposed.result in
-    let f = accepted_fits fire c.panel-exposed.ensures.accepted in
-    record {
-      section_bounds = rw c.section_at-s.ensures (counted_bounds c.args.depth (lamellae fire) f.thickness, nothing_cut c.args.depth (lamellae fire));
-    }
 
 pub returns : goal.returns
 unfolding section_answer accepted_answer
