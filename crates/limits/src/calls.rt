@@ -27,7 +27,7 @@ pub fn section(p: Panel, depth: u32) -> Result<(Section, bool), Refusal>
 {
     let exposed = Accepted::of(p)?.shown().panel();
     let s = section_at(exposed, depth);
-    Ok((s, DesignValues::of(&exposed).section_passes(s)))
+    Ok((s.section, DesignValues::of(&exposed).section_passes(s)))
 }
 
 // Whether two panels are the same build.

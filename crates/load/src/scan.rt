@@ -10,10 +10,9 @@ ghost use Rattle.load.specs.LoadMinute.{load_seconds};
 
 use charring::{Fire, Time};
 use limits::LAST_MINUTE;
-use limits::causes::total_thickness;
 use numbers::search::last_keeping;
 use panel::Panel;
-use section::carry::{carried_at_start, deeper};
+use section::carry::Carried;
 use section::test::DesignValues;
 
 // The last depth, at most the panel's thickness, to which every depth passes. The section is carried. Where N stays the section does, and is
@@ -22,14 +21,11 @@ fn last_passing(p: Panel) -> u64
     requires { SectionFits p × (EachThick (lamellae p) × (depth_passes p 0 ≡ true)) }
     ensures { result ≡ last_passing p }
 {
-    let lamellae = p.lamellae();
     let design = DesignValues::of(&p);
-    let bottom = u64::from(total_thickness(lamellae));
-    let mut c = carried_at_start(lamellae);
-    while c.depth < bottom {
-        let next = deeper(c, lamellae);
+    let mut c = Carried::start(p.lamellae());
+    while let Some(next) = c.deeper() {
         if next.section.n != c.section.n {
-            if !design.section_passes(next.section) {
+            if !design.section_passes(next.remaining()) {
                 return c.depth;
             }
         }

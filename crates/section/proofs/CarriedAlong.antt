@@ -1,23 +1,24 @@
 -- The section carried along a run of lamellae: what the step is given there, and that each function hands on what is carried to a depth.
 -- Assumes nothing.
-use Prim.Native.Nat.{ℕ, zero, suc, ◌+◌, ◌≤◌, ◌<◌}
+use Prim.Native.Nat.{ℕ, zero, suc, ◌+◌, ◌-◌, ◌≤◌, ◌<◌}
 use mathlib.Core.Path.{◌≡◌, refl, sym, ap, subst, ◌∙◌}
 use mathlib.Core.List.{List, [], ◌∷◌}
-use mathlib.Core.Logic.{⊎_elim}
-use native.Mathlib.Nat.{eq-or-lt_of_le}
 use native.Mathlib.Numerals.{add-one}
 use native.Mathlib.Omega.{arith}
 use lib.ListN.{length, get_or, take, drop}
 use lib.Seq.{drop-cons, take_all}
 use borrow.Author.Tests.{le-ltb, lt-ltb}
+use Rattle.std.specs.Prelude.{Option, unwrap_or}
 use Rattle.panel.specs.Lamellae.{Lamella, lamella, thickness}
+use Rattle.panel.specs.Lent.{lamellae_in}
 use Rattle.panel.proofs.Used.{thickness_next, thickness_parts}
 use Rattle.section.specs.declared.Section.{Section}
-use Rattle.section.specs.declared.Carried.{Carried}
+use Rattle.section.specs.declared.carry.Carried.{Carried}
 use Rattle.section.specs.Sections.{least_remainder, counted, section_of}
 use Rattle.section.specs.Carried.{step, Cut, first_along, cut_from}
-use Rattle.section.specs.Carrying.{EachThick, LamellaeFit, StepFits, CarriedAt}
+use Rattle.section.specs.Carrying.{EachThick, StepFits}
 use Rattle.section.proofs.Carrying.{cutting, cutting_fits, step_deeper}
+use Rattle.section.proofs.NextAlong.{next_is_first}
 
 -- lamella i of a run
 abbrev pub nth : List Lamella → ℕ → Lamella
@@ -62,70 +63,61 @@ cut_within ls i depth end next h past inside e f =
     ∙ ap (cut_from depth (thickness (take i ls))) (drop-cons ls i (lamella 0 0) h)
     ∙ rw (f, add-one i, e, lt-ltb depth (thickness (take i ls) + (nth ls i).thickness) (omega arith))
 
--- What the functions hand on
+-- the lamellae along which it is carried
+abbrev pub along_which : Carried → List Lamella
+along_which c = lamellae_in c.lamellae
 
-module _ (ls : List Lamella) where
-  -- before all are passed another lamella follows
-  pub next_there : (c : Carried) → CarriedAt ls c → c.end ≤ c.depth → c.depth < thickness ls → c.place < length ls
-  next_there c at past within =
-      ⊎_elim
-      (λ (all : c.place ≡ length ls).
-      let end : c.end ≡ thickness ls = at.end ∙ ap thickness (take_all c.place ls (omega arith)) in
-      absurd (let z : ⊥ = omega arith in z))
-      (λ (less : c.place < length ls). less) (eq-or-lt_of_le at.begun)
+module _ (c : Carried) where
+  -- where all lamellae are begun and passed, the depth is their thickness
+  pub all_passed : length (along_which c) ≤ c.place → c.end ≤ c.depth → c.depth ≡ thickness (along_which c)
+  all_passed all past =
+      let reached : c.depth ≡ c.end = omega (arith, c.to) in
+      reached ∙ c.ends ∙ ap thickness (take_all c.place (along_which c) all)
 
-  -- it ends within the panel, and those that follow do
-  pub next_fits : (c : Carried) (end : ℕ) → LamellaeFit ls → CarriedAt ls c → c.place < length ls
-      → end ≡ c.end + (nth ls c.place).thickness → end + thickness (drop (c.place + 1) ls) ≤ 4000
-  next_fits c end fit at there e =
-      rw (add-one c.place) (omega (arith, at.end, fit.thickness, thickness_next ls c.place there, thickness_parts ls (suc c.place)))
+  -- another that follows
+  module _ (thick : ℕ) (there : c.place < length (along_which c)) (e : thick ≡ (nth (along_which c) c.place).thickness) where
+    -- ends where its thickness says
+    pub next_ends : c.end + thick ≡ thickness (take (c.place + 1) (along_which c))
+    next_ends = rw (add-one c.place) (omega (arith, c.ends, e, thickness_next (along_which c) c.place there))
 
-  -- at depth 0 no lamella is begun
-  pub carried_start : (s : Section) → s ≡ section_of (counted 0 ls)
-      → CarriedAt ls (record { section = s; depth = 0; place = 0; end = 0; next = 0 })
+    -- within the panel, as those behind it do
+    pub next_fits : c.end + thick + thickness (drop (c.place + 1) (along_which c)) ≤ 4000
+    next_fits = omega (arith, next_ends, c.short, thickness_parts (along_which c) (c.place + 1))
+
+    -- past where it begins
+    pub next_past : c.end < c.end + thick
+    next_past = omega (arith, e, each_at (along_which c) c.place there c.each)
+
+  -- the lamella that is cut from its depth on ends at `end`, and the next along one begins at `next`
+  cut_there :
+      (place : ℕ) → place ≤ length (along_which c) → c.end ≡ thickness (take place (along_which c))
+      → thickness (take (place - 1) (along_which c)) ≤ c.depth → c.depth < c.end
+      → cut_from c.depth 0 (along_which c) ≡ record { end = c.end; next = first_along c.end (drop place (along_which c)) }
   unfolding thickness
-  carried_start s e =
-      record { section = e; begun = omega arith; end = refl; reached = omega arith; cut = λ d from below. absurd (let z : ⊥ = omega arith in z) }
+  cut_there zero begun ends from inside = absurd (let z : ⊥ = omega arith in z)
+  cut_there (suc i) begun ends from inside =
+      let before : suc i - 1 ≡ i = omega arith in
+      cut_within (along_which c) i c.depth c.end (first_along c.end (drop (suc i) (along_which c))) (omega arith) (rw before at from) inside
+      (ends ∙ thickness_next (along_which c) i (omega arith))
+      (ap (λ (k : ℕ). first_along c.end (drop k (along_which c))) (sym (add-one i)))
 
-  -- with the next lamella begun
-  pub carried_next : (c : Carried) (end next : ℕ) → LamellaeFit ls → CarriedAt ls c → c.end ≤ c.depth → c.place < length ls
-      → end ≡ c.end + (nth ls c.place).thickness → next ≡ first_along end (drop (c.place + 1) ls)
-      → CarriedAt ls (record { section = c.section; depth = c.depth; place = c.place + 1; end = end; next = next }) × (c.depth < end)
-  carried_next c end next fit at past there e f =
-      let thick = each_at ls c.place there fit.each in
-      let top = at.end in
-      let here : end ≡ thickness (take c.place ls) + (nth ls c.place).thickness = omega arith in (
-        record {
-          section = at.section;
-          begun = omega arith;
-          end = rw (add-one c.place) (here ∙ sym (thickness_next ls c.place there));
-          reached = omega (arith, at.reached);
-          cut = λ d from below. cut_within ls c.place d end next there (omega (arith, at.reached)) below here f;
-        },
-        omega (arith, at.reached),
-      )
+  given : c.depth < c.end → cut_from c.depth 0 (along_which c) ≡ record { end = c.end; next = unwrap_or c.next 0 }
+  given inside =
+      let next = next_is_first c.end (drop c.place (along_which c)) ∙ ap (λ (o : Option ℕ). unwrap_or o 0) (sym c.after) in
+      cut_there c.place c.begun c.ends c.from inside ∙ (λ i. record { end = c.end; next = next i })
 
-  -- with one step more
-  pub carried_deeper : (c : Carried) (s : Section) → LamellaeFit ls → CarriedAt ls c → c.depth < c.end → s ≡ step c.section c.end c.next
-      → CarriedAt ls (record { section = s; depth = c.depth + 1; place = c.place; end = c.end; next = c.next })
-  carried_deeper c s fit at inside e =
-      let given = at.cut c.depth (omega arith) inside in
-      record {
-        section =
-            e
-            ∙ (λ i. step (at.section i) (sym given i).end (sym given i).next)
-            ∙ step_deeper c.depth ls fit.each;
-        begun = at.begun;
-        end = at.end;
-        reached = omega arith;
-        cut = λ d from below. at.cut d (omega arith) below;
-      }
+  -- one step gives the section a tenth of mm deeper
+  pub one_deeper : (s : Section) → c.depth < c.end → s ≡ step c.section c.end (unwrap_or c.next 0)
+      → s ≡ section_of (counted (c.depth + 1) (along_which c))
+  one_deeper s inside e =
+      e
+      ∙ (λ i. step (c.carried i) (sym (given inside) i).end (sym (given inside) i).next)
+      ∙ step_deeper c.depth (along_which c) c.each
 
-  -- the step's differences are not cut off
-  pub carried_fits : (c : Carried) → LamellaeFit ls → CarriedAt ls c → c.depth < c.end → StepFits c.section c.end
-  carried_fits c fit at inside =
-      let given = at.cut c.depth (omega arith) inside in
-      let end : (cut_from c.depth 0 ls).end ≡ c.end = ap (λ (x : Cut). x.end) given in
-      rw (at.section, ← end)
-      (cutting_fits (cutting c.depth 0 ls (omega arith) fit.each)
-      (omega (arith, at.end, fit.thickness, thickness_parts ls c.place)))
+  -- and its differences are not cut off
+  pub step_fits : c.depth < c.end → StepFits c.section c.end
+  step_fits inside =
+      let end : (cut_from c.depth 0 (along_which c)).end ≡ c.end = ap (λ (x : Cut). x.end) (given inside) in
+      rw (c.carried, ← end)
+      (cutting_fits (cutting c.depth 0 (along_which c) (omega arith) c.each)
+      (omega (arith, c.ends, c.short, thickness_parts (along_which c) c.place)))

@@ -15,8 +15,7 @@ use Rattle.panel.proofs.Used.{thickness_next, thickness_parts}
 use Rattle.section.specs.declared.Section.{Section}
 use Rattle.section.specs.Sections.{Part, rest, counts, keep_if, counted_from, counted, total, lowest, highest, section_of}
 use Rattle.section.specs.Growing.{with_part, with_lamella, pick_section}
-use Rattle.section.specs.Tests.{SectionBounds}
-use Rattle.section.proofs.Chains.{Chain, none, more, counted_chain, counted_bounds}
+use Rattle.section.proofs.Chains.{Chain, none, more, counted_chain}
 
 keep_if_append : (b : Bool) (x : Part) (xs ys : List Part) → keep_if b x (xs ++ ys) ≡ keep_if b x xs ++ ys
 keep_if_append true x xs ys = refl
@@ -95,9 +94,9 @@ pub record Summed (ls : List Lamella) (depth i : ℕ) (s : Section) (top : ℕ) 
   pub ends : top ≡ thickness (take i ls)
   pub sums : s ≡ section_of (counted depth (take i ls))
 
-pub summed_start : (ls : List Lamella) (depth : ℕ) → Summed ls depth 0 (record { n = 0; p = 0; q = 0; lo = 0; hi = 0 }) 0
-unfolding thickness section_of counted_from total lowest highest
-summed_start ls depth = record { ends = refl; sums = refl }
+pub summed_start : (ls : List Lamella) (depth : ℕ) (s : Section) (top : ℕ) → s ≡ section_of [] → top ≡ 0 → Summed ls depth 0 s top
+unfolding thickness counted_from
+summed_start ls depth s top empty face = record { ends = face; sums = empty }
 
 pub summed_more : (ls : List Lamella) (depth i : ℕ) (s r : Section) (top next : ℕ) (l : Lamella) → Summed ls depth i s top → i < length ls
     → get_or ls i (lamella 0 0) ≡ l → r ≡ with_lamella depth top l s → next ≡ top + l.thickness → Summed ls depth (i + 1) r next
@@ -112,13 +111,11 @@ summed_more ls depth i s r top next l now h here e d =
           ∙ ap (λ (ms : List Lamella). section_of (counted depth ms)) (sym more);
     }
 
--- within a panel of at most 400.0 mm the sums keep their bounds and the next lamella ends in time
+-- within a panel of at most 400.0 mm the next lamella ends in time
 pub summed_fits : (ls : List Lamella) (depth i : ℕ) (s : Section) (top : ℕ) (l : Lamella) → Summed ls depth i s top → i < length ls
-    → get_or ls i (lamella 0 0) ≡ l → thickness ls ≤ 4000 → SectionBounds s × (top + l.thickness ≤ 4000)
-summed_fits ls depth i s top l now h here fits = (
-  rw now.sums (counted_bounds depth (take i ls) (omega (arith, thickness_parts ls i))),
-  omega (arith, now.ends, thickness_next ls i h, thickness_parts ls (suc i), ap (λ (x : Lamella). x.thickness) here),
-)
+    → get_or ls i (lamella 0 0) ≡ l → thickness ls ≤ 4000 → top + l.thickness ≤ 4000
+summed_fits ls depth i s top l now h here fits =
+    omega (arith, now.ends, thickness_next ls i h, thickness_parts ls (suc i), ap (λ (x : Lamella). x.thickness) here)
 
 -- past the last they are those of all
 pub summed_all : (ls : List Lamella) (depth i : ℕ) (s : Section) (top : ℕ) → Summed ls depth i s top → length ls ≤ i

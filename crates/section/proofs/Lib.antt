@@ -13,7 +13,7 @@ pub mod Mirroring
 pub mod Carrying
 -- What the functions need: sums lamella by lamella, and what is carried along them.
 pub mod Growing
-pub mod FirstAlong
+pub mod NextAlong
 pub mod CarriedAlong
 -- Worked panels keep the limits.
 pub mod Worked

@@ -1,12 +1,9 @@
 -- The worked panels keep the limits which the functions require. The starred lines are in the crate `cases`. Assumes nothing.
-use Prim.Native.Nat.{◌<◌}
-use mathlib.Core.Path.{refl}
 use native.Mathlib.Omega.{arith}
 use Rattle.panel.specs.Lamellae.{lamellae_of, lamellae, thickness}
 use Rattle.panel.specs.Worked.{g, recovers}
-use Rattle.section.specs.Tests.{section_at, SectionFits}
-use Rattle.section.specs.Carrying.{LamellaeFit, CarriedAt}
-use Rattle.section.proofs.CarriedAlong.{carried_start}
+use Rattle.section.specs.Tests.{SectionFits}
+use Rattle.section.specs.Carrying.{LamellaeFit}
 
 -- both panels keep the limits
 pub g_fits : SectionFits (g 3000)
@@ -17,13 +14,7 @@ pub recovers_fits : SectionFits recovers
 unfolding lamellae_of thickness
 recovers_fits = record { strength = omega arith; moment = omega arith; count = omega arith; thickness = omega arith }
 
--- the lamellae of G are as they must be to be lent, and what is carried begins at depth 0, short of their thickness
+-- the lamellae of G are as they must be to be lent and to carry a section along them
 pub g_lamellae_fit : LamellaeFit (lamellae (g 3000))
 unfolding lamellae_of
 g_lamellae_fit = record { thickness = g_fits.thickness; each = (omega arith, (omega arith, (omega arith, tt))) }
-
-pub g_carried :
-    CarriedAt (lamellae (g 3000)) (record { section = section_at (g 3000) 0; depth = 0; place = 0; end = 0; next = 0 })
-    × (0 < thickness (lamellae (g 3000)))
-unfolding lamellae_of thickness
-g_carried = (carried_start (lamellae (g 3000)) (section_at (g 3000) 0) refl, omega arith)

@@ -1,15 +1,19 @@
--- What the functions that carry the section ask for, and what they hand to each other.
-use Rattle.std.specs.Prelude.{ℕ, ◌-◌, ◌*◌, ◌<◌, ◌≤◌, ◌≡◌, List, [], ◌∷◌, length, take}
+-- What the functions that carry the section ask for.
+use Rattle.std.specs.Prelude.{ℕ, ◌-◌, ◌*◌, ◌<◌, ◌≤◌, List, [], ◌∷◌}
+use Rattle.std.specs.Coded.{×_prop, Unit-prop, le_prop}
 use Rattle.panel.specs.Lamellae.{Lamella}
 use Rattle.section.specs.declared.Section.{Section}
-use Rattle.section.specs.declared.Carried.{Carried}
-use Rattle.section.specs.Sections.{least_remainder, counted, section_of}
-use Rattle.section.specs.Carried.{cut_from}
+use Rattle.section.specs.Sections.{least_remainder}
 
 -- of line 11: each lamella is thick enough to be counted until it is cut
 abbrev pub EachThick : List Lamella → Type 0
 EachThick [] = Unit
 EachThick (l ∷ ls) = (least_remainder ≤ l.thickness) × EachThick ls
+
+-- and there is one proof of it at most, as a ghost field wants it
+pub EachThick-prop : (ls : List Lamella) → IsProp (EachThick ls)
+EachThick-prop [] = Unit-prop
+EachThick-prop (l ∷ ls) = ×_prop le_prop (EachThick-prop ls)
 
 -- lamellae keep the limits of line 11
 pub record LamellaeFit (ls : List Lamella) : Type 0 where
@@ -25,14 +29,3 @@ pub record HoldsPart (s : Section) (end : ℕ) : Type 0 where
 
 abbrev pub StepFits : Section → ℕ → Type 0
 StepFits s end = 0 < s.n → s.lo < end → HoldsPart s end
-
--- what is carried to a depth of lamellae
-pub record CarriedAt (ls : List Lamella) (c : Carried) : Type 0 where
-  pub section : c.section ≡ section_of (counted c.depth ls)
-  pub begun : c.place ≤ length ls
-  pub end : c.end ≡ Rattle.panel.specs.Lamellae.thickness (take c.place ls)
-  pub reached : c.depth ≤ c.end
-  -- what the step is given from here to the end of the last lamella begun
-  pub cut :
-      (depth : ℕ) → c.depth ≤ depth → depth < c.end
-      → cut_from depth 0 ls ≡ record { end = c.end; next = c.next }

@@ -1,6 +1,6 @@
 -- The sums lamella by lamella, as the code takes them: one more lamella at the deeper end. `Growing` in proofs/ ties them to
 -- `section_of`.
-use Rattle.std.specs.Prelude.{ℕ, ◌+◌, ◌-◌, ◌*◌, Bool, true, false, eqb}
+use Rattle.std.specs.Prelude.{ℕ, ◌+◌, ◌-◌, ◌*◌, ◌≤◌, Bool, true, false, eqb}
 use Rattle.numbers.specs.Choice.{pick}
 use Rattle.panel.specs.Lamellae.{Lamella}
 use Rattle.section.specs.declared.Section.{Section}
@@ -24,3 +24,11 @@ pick_section false s r = r
 -- the sums with one more lamella, which begins at top
 unfoldable pub with_lamella : ℕ → ℕ → Lamella → Section → Section
 with_lamella depth top l s = pick_section (counts depth top l) (with_part s (rest depth top l)) s
+
+-- sums over lamellae from the exposed face to `end`
+pub record SumsTo (end : ℕ) (s : Section) : Type 0 where
+  pub n : s.n ≤ end
+  pub p : s.p ≤ end * end
+  pub q : s.q ≤ end * end * end
+  pub lo : s.lo ≤ end
+  pub hi : s.hi ≤ end

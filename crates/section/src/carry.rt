@@ -1,129 +1,154 @@
 // The section carried from one depth to the next, a tenth of mm deeper (document 02, 4/14).
-ghost use Rattle.std.specs.Prelude.{◌≡◌, ◌+◌, ◌-◌, ◌*◌, ◌≤◌, ◌<◌};
+ghost use Rattle.std.specs.Prelude.{◌≡◌, ◌+◌, ◌-◌, ◌*◌, ◌≤◌, ◌<◌, MatchOption, unwrap_or, length, take, drop};
 ghost use Rattle.panel.specs.Lamellae.{thickness};
 ghost use Rattle.panel.specs.Lent.{lamellae_in};
-ghost use Rattle.section.specs.Carried.{without, step, first_along};
-ghost use Rattle.section.specs.Carrying.{LamellaeFit, StepFits, CarriedAt};
+ghost use Rattle.section.specs.Sections.{counted, section_of};
+ghost use Rattle.section.specs.Carried.{without, step, next_along};
+ghost use Rattle.section.specs.Carrying.{EachThick, EachThick-prop, LamellaeFit, StepFits};
 
-use crate::sums::{cubes, is_enough, section_in, squares, where_none};
-use crate::{Carried, Section};
+use crate::sums::{Part, is_enough, section_in, where_none};
+use crate::{Remaining, Section};
 use panel::lamellae::Lamellae;
 
-// The sums without what lies from a to b, with which the first part begins; the counted parts begin at lo then.
-fn take_off(s: Section, a: u64, b: u64, lo: u64) -> Section
-    requires a_le_b { (a ≤ b) × (b ≤ 4000) }
-    requires a_bound { (b - a ≤ s.n) × ((b * b - a * a ≤ s.p) × (b * b * b - a * a * a ≤ s.q)) }
-    ensures { result ≡ without s (record { from = a; to = b }) lo }
+// The section of lent lamellae, carried to a depth. Of the lamellae from the exposed face `place` are begun, the last of them ends at `end`,
+// and the next along one begins at `next`.
+#[derive(Clone, Copy)]
+pub struct Carried<'a> {
+    pub lamellae: Lamellae<'a>,
+    pub section: Section,
+    pub depth: u64,
+    place: usize,
+    end: u64,
+    next: Option<u64>,
+    pub ghost short: { thickness (lamellae_in lamellae) ≤ 4000 },
+    pub ghost each: { EachThick (lamellae_in lamellae) } by { EachThick-prop (lamellae_in lamellae) },
+    pub ghost carried: { section ≡ section_of (counted depth (lamellae_in lamellae)) },
+    pub ghost within: { depth ≤ thickness (lamellae_in lamellae) },
+    ghost begun: { place ≤ length (lamellae_in lamellae) },
+    ghost ends: { end ≡ thickness (take place (lamellae_in lamellae)) },
+    ghost from: { thickness (take (place - 1) (lamellae_in lamellae)) ≤ depth },
+    ghost to: { depth ≤ end },
+    ghost after: { next ≡ next_along end (drop place (lamellae_in lamellae)) },
+}
+
+// The sums without a part, with which the first one begins; the counted parts begin at lo then.
+fn take_off(s: Section, part: Part, lo: u64) -> Section
+    requires { (part.to - part.from ≤ s.n)
+        × ((part.to * part.to - part.from * part.from ≤ s.p)
+        × (part.to * part.to * part.to - part.from * part.from * part.from ≤ s.q)) }
+    ensures { result ≡ without s (record { from = part.from; to = part.to }) lo }
 {
-    let n = s.n - (b - a);
+    let n = s.n - (part.to - part.from);
     Section {
         n,
-        p: s.p - squares(a, b),
-        q: s.q - cubes(a, b),
+        p: s.p - part.squares(),
+        q: s.q - part.cubes(),
         lo,
         hi: where_none(n, 0, s.hi),
     }
 }
 
-// The sums without the tenth of mm from a on, with which the first part begins; the counted parts begin after it then.
-fn take_tenth(s: Section, a: u64) -> Section
-    requires a_bound { a + 1 ≤ 4000 }
-    requires le_n { (1 ≤ s.n) × ((2 * a + 1 ≤ s.p) × (3 * a * (a + 1) + 1 ≤ s.q)) }
-    ensures { result ≡ without s (record { from = a; to = a + 1 }) (a + 1) }
+// The sums without the first tenth of mm, with which the first part begins; the counted parts begin after it then.
+fn take_tenth(s: Section) -> Section
+    requires lo_bound { s.lo + 1 ≤ 4000 }
+    requires le_n { (1 ≤ s.n) × ((2 * s.lo + 1 ≤ s.p) × (3 * s.lo * (s.lo + 1) + 1 ≤ s.q)) }
+    ensures { result ≡ without s (record { from = s.lo; to = s.lo + 1 }) (s.lo + 1) }
 {
     let n = s.n - 1;
     Section {
         n,
-        p: s.p - (2 * a + 1),
-        q: s.q - (3 * a * (a + 1) + 1),
-        lo: a + 1,
+        p: s.p - (2 * s.lo + 1),
+        q: s.q - (3 * s.lo * (s.lo + 1) + 1),
+        lo: s.lo + 1,
         hi: where_none(n, 0, s.hi),
     }
 }
 
-// The step: it is given the section, where the lamella being cut ends, and where the next along one begins.
-fn step_of(s: Section, end: u64, next: u64) -> Section
+// The step: it is given the section, where the lamella being cut ends, and where the next along one begins. Where none is along nothing is
+// counted any more, and lo is 0.
+fn step_of(s: Section, end: u64, next: Option<u64>) -> Section
     requires { StepFits s end }
-    ensures { result ≡ step s end next }
+    ensures { result ≡ step s end (unwrap_or next 0) }
 {
     if !((0 < s.n) & (s.lo < end)) {
         return s;
     }
     if is_enough(s.lo + 1, end) {
-        take_tenth(s, s.lo)
-    } else {
-        take_off(s, s.lo, end, next)
+        return take_tenth(s);
     }
+    let part = Part {
+        from: s.lo,
+        to: end,
+    };
+    take_off(s, part, next.unwrap_or(0))
 }
 
-// Where the first lamella along begins, of lamellae the first of which begins at `top`; 0 where none is along.
-fn first_along(lamellae: Lamellae<'_>, top: u64) -> u64
+// Where the first lamella along begins, of lamellae the first of which begins at `top`. The test of a direction is kept as it is: it is a
+// raw number of the panel, which calls refuse.
+fn next_along(lamellae: Lamellae<'_>, top: u64) -> Option<u64>
     requires { top + thickness (lamellae_in lamellae) ≤ 4000 }
-    ensures { result ≡ first_along top (lamellae_in lamellae.entry) }
+    ensures { result ≡ next_along top (lamellae_in lamellae.entry) }
 {
     let mut at = top;
     for (direction, thick) in lamellae.directions.iter().zip(lamellae.thicknesses) {
         if *direction == 1 {
-            return at;
+            return Some(at);
         }
         at += u64::from(*thick);
     }
-    0
+    None
 }
 
-// Past the end of a lamella the next one is cut.
-fn begin_next(c: Carried, lamellae: Lamellae<'_>) -> Carried
-    requires lamellae_fit { LamellaeFit (lamellae_in lamellae) × CarriedAt (lamellae_in lamellae) c }
-    requires end_le_depth { (c.end ≤ c.depth) × (c.depth < thickness (lamellae_in lamellae)) }
-    ensures { CarriedAt (lamellae_in lamellae.entry) result × ((result.depth ≡ c.depth) × (result.depth < result.end)) }
-{
-    let place = c.place + 1;
-    let thick = u64::from(lamellae.thicknesses[c.place]);
-    let end = c.end + thick;
-    Carried {
-        place,
-        end,
-        next: first_along(lamellae.starting_at(place), end),
-        ..c
+impl<'a> Carried<'a> {
+    // At depth 0, where no lamella is cut yet. No open call: the lamellae must keep the limits of line 11.
+    pub fn start(lamellae: Lamellae<'a>) -> Carried<'a>
+        requires { LamellaeFit (lamellae_in lamellae) }
+        ensures { (lamellae_in result.lamellae ≡ lamellae_in lamellae.entry) × (result.depth ≡ 0) }
+    {
+        Carried {
+            lamellae,
+            section: section_in(lamellae, 0).section,
+            depth: 0,
+            place: 0,
+            end: 0,
+            next: next_along(lamellae, 0),
+        }
     }
-}
 
-// With the lamella that is cut from here on.
-fn cut_here(c: Carried, lamellae: Lamellae<'_>) -> Carried
-    requires lamellae_fit { LamellaeFit (lamellae_in lamellae) × CarriedAt (lamellae_in lamellae) c }
-    requires depth_bound { c.depth < thickness (lamellae_in lamellae) }
-    ensures { CarriedAt (lamellae_in lamellae.entry) result × ((result.depth ≡ c.depth) × (result.depth < result.end)) }
-{
-    if c.depth < c.end {
-        return c;
+    pub fn remaining(self) -> Remaining
+        ensures { result.section ≡ self.entry.section }
+    {
+        Remaining {
+            section: self.section,
+        }
     }
-    begin_next(c, lamellae)
-}
 
-// One tenth of mm deeper. No open call: what is handed in must be carried to a depth short of the panel's thickness.
-pub fn deeper(c: Carried, lamellae: Lamellae<'_>) -> Carried
-    requires lamellae_fit { LamellaeFit (lamellae_in lamellae) × CarriedAt (lamellae_in lamellae) c }
-    requires depth_bound { c.depth < thickness (lamellae_in lamellae) }
-    ensures { CarriedAt (lamellae_in lamellae.entry) result × (result.depth ≡ c.depth + 1) }
-{
-    let cut = cut_here(c, lamellae);
-    Carried {
-        section: step_of(cut.section, cut.end, cut.next),
-        depth: cut.depth + 1,
-        ..cut
+    // With the next lamella begun; none where all are.
+    fn begin_next(self) -> Option<Carried<'a>>
+        requires { self.end ≤ self.depth }
+        ensures { MatchOption result (self.entry.depth ≡ thickness (lamellae_in self.entry.lamellae))
+            (λ begun. (lamellae_in begun.lamellae ≡ lamellae_in self.entry.lamellae) × ((begun.depth ≡ self.entry.depth) × (begun.depth < begun.end))) }
+    {
+        let thick = self.lamellae.thicknesses.get(self.place)?;
+        let mut begun = self;
+        begun.place += 1;
+        begun.end += u64::from(*thick);
+        begun.next = next_along(self.lamellae.starting_at(begun.place), begun.end);
+        Some(begun)
     }
-}
 
-// At depth 0, where no lamella is cut yet. No open call: the lamellae must keep the limits of line 11.
-pub fn carried_at_start(lamellae: Lamellae<'_>) -> Carried
-    requires { LamellaeFit (lamellae_in lamellae) }
-    ensures { CarriedAt (lamellae_in lamellae.entry) result × (result.depth ≡ 0) }
-{
-    Carried {
-        section: section_in(lamellae, 0),
-        depth: 0,
-        place: 0,
-        end: 0,
-        next: 0,
+    // One tenth of mm deeper; none past the last lamella.
+    pub fn deeper(self) -> Option<Carried<'a>>
+        ensures { MatchOption result (self.entry.depth ≡ thickness (lamellae_in self.entry.lamellae))
+            (λ next. (lamellae_in next.lamellae ≡ lamellae_in self.entry.lamellae) × (next.depth ≡ self.entry.depth + 1)) }
+    {
+        let mut cut = if self.depth < self.end {
+            self
+        } else {
+            self.begin_next()?
+        };
+        cut.section = step_of(cut.section, cut.end, cut.next);
+        cut.depth += 1;
+        Some(cut)
     }
 }

@@ -3,11 +3,15 @@
 // the crate `limits` checks them.
 #![tactic(auto)]
 
+ghost use Rattle.section.specs.Tests.{SectionBounds};
+ghost use Rattle.section.specs.NothingCut.{NothingCut};
+
 pub mod carry;
 pub mod sums;
 pub mod test;
 
-// N, P and Q of the counted parts (tenths of mm and their powers), and their outermost ends; all 0 where nothing is counted.
+// N, P and Q of the counted parts (tenths of mm and their powers), and their outermost ends. All are 0 where nothing is counted, which is
+// so by definition and in stored outputs.
 #[derive(Clone, Copy)]
 pub struct Section {
     pub n: u64,
@@ -17,13 +21,10 @@ pub struct Section {
     pub hi: u64,
 }
 
-// The section carried to a depth. Of the lamellae from the exposed face `place` are begun, the last of them ends at `end`, and the next
-// along one begins at `next`, 0 where there is none.
+// The section that remains of a panel of at most 400.0 mm: its sums keep their bounds, and no difference of its test is cut off at 0.
 #[derive(Clone, Copy)]
-pub struct Carried {
+pub struct Remaining {
     pub section: Section,
-    pub depth: u64,
-    pub place: usize,
-    pub end: u64,
-    pub next: u64,
+    pub ghost bounds: { SectionBounds section },
+    pub ghost uncut: { NothingCut section },
 }

@@ -1,30 +1,48 @@
 // The sums over the counted parts, lamella by lamella from the exposed face.
-ghost use Rattle.std.specs.Prelude.{◌≡◌, ◌+◌, ◌-◌, ◌*◌, ◌≤◌, ◌<◌, eqb, leb};
+ghost use Rattle.std.specs.Prelude.{◌≡◌, ◌+◌, ◌-◌, ◌*◌, ◌≤◌, ◌<◌, eqb, leb, []};
 ghost use Rattle.numbers.specs.Choice.{pick};
 ghost use Rattle.panel.specs.Lamellae.{lamella, thickness};
 ghost use Rattle.panel.specs.Lent.{lamellae_in};
 ghost use Rattle.section.specs.Sections.{least_remainder, counted, section_of};
-ghost use Rattle.section.specs.Growing.{with_part, with_lamella};
-ghost use Rattle.section.specs.Tests.{section_at, SectionFits, SectionBounds};
+ghost use Rattle.section.specs.Growing.{with_part, with_lamella, SumsTo};
+ghost use Rattle.section.specs.Tests.{section_at, SectionFits};
 
-use crate::Section;
+use crate::{Remaining, Section};
 use panel::Panel;
 use panel::lamellae::Lamellae;
 
-// b² − a².
-pub(crate) fn squares(a: u64, b: u64) -> u64
-    requires { (a ≤ b) × (b ≤ 4000) }
-    ensures { (result ≡ b * b - a * a) × (result ≤ 16000000) }
-{
-    b * b - a * a
+// A stretch of a panel of at most 400.0 mm, from one depth to another.
+#[derive(Clone, Copy)]
+pub(crate) struct Part {
+    pub from: u64,
+    pub to: u64,
+    ghost forward: { from ≤ to },
+    ghost within: { to ≤ 4000 },
 }
 
-// b³ − a³.
-pub(crate) fn cubes(a: u64, b: u64) -> u64
-    requires { (a ≤ b) × (b ≤ 4000) }
-    ensures { (result ≡ b * b * b - a * a * a) × (result ≤ 64000000000) }
-{
-    b * b * b - a * a * a
+// The sums over the lamellae from the exposed face to `end`.
+#[derive(Clone, Copy)]
+struct Sums {
+    section: Section,
+    end: u64,
+    ghost within: { end ≤ 4000 },
+    ghost bounds: { SumsTo end section },
+}
+
+impl Part {
+    // b² − a².
+    pub(crate) fn squares(self) -> u64
+        ensures { (result ≡ self.to * self.to - self.from * self.from) × (result ≤ 16000000) }
+    {
+        self.to * self.to - self.from * self.from
+    }
+
+    // b³ − a³.
+    pub(crate) fn cubes(self) -> u64
+        ensures { (result ≡ self.to * self.to * self.to - self.from * self.from * self.from) × (result ≤ 64000000000) }
+    {
+        self.to * self.to * self.to - self.from * self.from * self.from
+    }
 }
 
 // An outermost end: `none` where nothing is counted.
@@ -32,21 +50,6 @@ pub(crate) fn where_none(n: u64, none: u64, end: u64) -> u64
     ensures { result ≡ pick (eqb n 0) none end }
 {
     if n == 0 { none } else { end }
-}
-
-// The sums with one more counted part, from a to b, deeper than the others.
-fn with_part(s: Section, a: u64, b: u64) -> Section
-    requires section_bounds { SectionBounds s }
-    requires a_le_b { (a ≤ b) × (b ≤ 4000) }
-    ensures { result ≡ with_part s (record { from = a; to = b }) }
-{
-    Section {
-        n: s.n + (b - a),
-        p: s.p + squares(a, b),
-        q: s.q + cubes(a, b),
-        lo: where_none(s.n, a, s.lo),
-        hi: b,
-    }
 }
 
 // Whether what is left of a lamella is enough to count.
@@ -57,58 +60,77 @@ pub(crate) fn is_enough(a: u64, b: u64) -> bool
     a + 30 <= b
 }
 
-// The sums with one more lamella along, which begins at top.
-fn with_along(s: Section, depth: u64, top: u64, thick: u16) -> Section
-    requires section_bounds { SectionBounds s }
-    requires depth_bound { (depth < 4294967296) × (top + thick ≤ 4000) }
-    ensures { result ≡ with_lamella depth top (lamella 1 thick) s }
-{
-    let from = depth.max(top);
-    let to = top + u64::from(thick);
-    if is_enough(from, to) {
-        with_part(s, from, to)
-    } else {
-        s
+impl Sums {
+    // Before the first lamella.
+    #[tactic(auto, unfolding(crate::specs::Sections::section_of, crate::specs::Sections::total, crate::specs::Sections::lowest, crate::specs::Sections::highest))]
+    fn at_face() -> Sums
+        ensures { (result.section ≡ section_of []) × (result.end ≡ 0) }
+    {
+        Sums {
+            section: Section {
+                n: 0,
+                p: 0,
+                q: 0,
+                lo: 0,
+                hi: 0,
+            },
+            end: 0,
+        }
     }
-}
 
-// The sums with one more lamella, which begins at top.
-fn with_lamella(s: Section, depth: u64, top: u64, direction: u8, thick: u16) -> Section
-    requires section_bounds { SectionBounds s }
-    requires depth_bound { (depth < 4294967296) × (top + thick ≤ 4000) }
-    ensures { result ≡ with_lamella depth top (lamella direction thick) s }
-{
-    if direction == 1 {
-        with_along(s, depth, top, thick)
-    } else {
-        s
+    // With one more counted part, deeper than the others.
+    fn with_part(self, part: Part) -> Sums
+        requires { self.end ≤ part.from }
+        ensures { (result.section ≡ with_part self.section (record { from = part.from; to = part.to })) × (result.end ≡ part.to) }
+    {
+        let s = self.section;
+        Sums {
+            section: Section {
+                n: s.n + (part.to - part.from),
+                p: s.p + part.squares(),
+                q: s.q + part.cubes(),
+                lo: where_none(s.n, part.from, s.lo),
+                hi: part.to,
+            },
+            end: part.to,
+        }
+    }
+
+    // With one more lamella. Its direction is kept as it is: a raw number of the panel, which calls refuse.
+    fn with_lamella(self, depth: u32, direction: u8, thick: u16) -> Sums
+        requires { self.end + thick ≤ 4000 }
+        ensures { (result.section ≡ with_lamella depth self.end (lamella direction thick) self.section) × (result.end ≡ self.end + thick) }
+    {
+        let from = u64::from(depth).max(self.end);
+        let to = self.end + u64::from(thick);
+        if (direction != 1) | !is_enough(from, to) {
+            return Sums {
+                section: self.section,
+                end: to,
+            };
+        }
+        self.with_part(Part { from, to })
     }
 }
 
 // The sums over lent lamellae, so that a scan of depths copies none. No open call: they must be of at most 400.0 mm.
-pub fn section_in(lamellae: Lamellae<'_>, depth: u32) -> Section
+pub fn section_in(lamellae: Lamellae<'_>, depth: u32) -> Remaining
     requires { thickness (lamellae_in lamellae) ≤ 4000 }
-    ensures { result ≡ section_of (counted depth (lamellae_in lamellae.entry)) }
+    ensures { result.section ≡ section_of (counted depth (lamellae_in lamellae.entry)) }
 {
-    let mut s = Section {
-        n: 0,
-        p: 0,
-        q: 0,
-        lo: 0,
-        hi: 0,
-    };
-    let mut top: u64 = 0;
+    let mut sums = Sums::at_face();
     for (direction, thick) in lamellae.directions.iter().zip(lamellae.thicknesses) {
-        s = with_lamella(s, u64::from(depth), top, *direction, *thick);
-        top += u64::from(*thick);
+        sums = sums.with_lamella(depth, *direction, *thick);
     }
-    s
+    Remaining {
+        section: sums.section,
+    }
 }
 
-// No open call: the panel must keep the limits of lines 5, 10 and 11.
-pub fn section_at(p: Panel, depth: u32) -> Section
+// No open call: the panel must keep the limits of lines 5, 10 and 11. That it is asked is kept as it is: a panel is plain data by value.
+pub fn section_at(p: Panel, depth: u32) -> Remaining
     requires { SectionFits p }
-    ensures { result ≡ section_at p depth }
+    ensures { result.section ≡ section_at p depth }
 {
     section_in(p.lamellae(), depth)
 }

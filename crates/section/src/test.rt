@@ -1,11 +1,10 @@
 // Whether a depth passes.
 ghost use Rattle.std.specs.Prelude.{◌≡◌, ◌*◌, ◌≤◌, leb};
 ghost use Rattle.panel.specs.Timber.{factor_of};
-ghost use Rattle.section.specs.Tests.{edge, inertia, carries, depth_passes, SectionFits, SectionBounds};
+ghost use Rattle.section.specs.Tests.{edge, inertia, carries, depth_passes, SectionFits};
 ghost use Rattle.section.specs.Between.{carries_between};
-ghost use Rattle.section.specs.NothingCut.{NothingCut};
 
-use crate::Section;
+use crate::Remaining;
 use crate::sums::section_at;
 use panel::Panel;
 use panel::timber::factor_of;
@@ -22,20 +21,22 @@ pub struct DesignValues {
     pub ghost strength_bound: { strength ≤ 400 },
 }
 
-// 2N times the distance of the outermost fibre from the centroid.
-fn edge_of(s: Section) -> u64
-    requires section_bounds { SectionBounds s × NothingCut s }
-    ensures { (result ≡ edge s) × (result ≤ 32000000) }
-{
-    (s.p - 2 * s.n * s.lo).max(2 * s.n * s.hi - s.p)
-}
+impl Remaining {
+    // 2N times the distance of the outermost fibre from the centroid.
+    fn edge(self) -> u64
+        ensures { (result ≡ edge self.section) × (result ≤ 32000000) }
+    {
+        let s = self.section;
+        (s.p - 2 * s.n * s.lo).max(2 * s.n * s.hi - s.p)
+    }
 
-// 12N times the second moment of area about the centroid.
-fn inertia_of(s: Section) -> u64
-    requires section_bounds { SectionBounds s × NothingCut s }
-    ensures { (result ≡ inertia s) × (result ≤ 1024000000000000) }
-{
-    4 * s.n * s.q - 3 * s.p * s.p
+    // 12N times the second moment of area about the centroid.
+    fn inertia(self) -> u64
+        ensures { (result ≡ inertia self.section) × (result ≤ 1024000000000000) }
+    {
+        let s = self.section;
+        4 * s.n * s.q - 3 * s.p * s.p
+    }
 }
 
 impl DesignValues {
@@ -62,28 +63,24 @@ impl DesignValues {
         120000 * u64::from(self.moment) * e <= self.factor * u64::from(self.strength) * w
     }
 
-    // Whether every depth from that of `shallow` to that of `deep` passes, tested at once. No open call: as for `section_passes`.
+    // Whether every depth from that of `shallow` to that of `deep` passes, tested at once.
     #[tactic(auto, unfolding(crate::specs::Between::carries_between))]
-    pub fn sections_pass(self, shallow: Section, deep: Section) -> bool
-        requires shallow_bounds { SectionBounds shallow × NothingCut shallow }
-        requires deep_bounds { SectionBounds deep × NothingCut deep }
-        ensures { result ≡ carries_between self.factor self.moment self.strength shallow deep }
+    pub fn sections_pass(self, shallow: Remaining, deep: Remaining) -> bool
+        ensures { result ≡ carries_between self.factor self.moment self.strength shallow.section deep.section }
     {
-        (0 < deep.n) & self.is_within(edge_of(shallow), inertia_of(deep))
+        (0 < deep.section.n) & self.is_within(shallow.edge(), deep.inertia())
     }
 
-    // No open call: the sums must keep the limits of lines 5 and 11, and no difference of them may be cut off at 0; of a section at a depth
-    // none is.
     #[tactic(auto, unfolding(crate::specs::Between::carries_between, crate::specs::Tests::carries))]
-    pub fn section_passes(self, s: Section) -> bool
-        requires section_bounds { SectionBounds s × NothingCut s }
-        ensures { result ≡ carries self.factor self.moment self.strength s }
+    pub fn section_passes(self, s: Remaining) -> bool
+        ensures { result ≡ carries self.factor self.moment self.strength s.section }
     {
         self.sections_pass(s, s)
     }
 }
 
-// No open call: the panel must keep the limits of lines 5, 10 and 11.
+// No open call: the panel must keep the limits of lines 5, 10 and 11. That it is asked is kept as it is: line 13 tests a panel that is not
+// accepted yet.
 pub fn depth_passes(p: Panel, depth: u32) -> bool
     requires { SectionFits p }
     ensures { result ≡ depth_passes p depth }

@@ -7,13 +7,12 @@ ghost use Rattle.section.specs.Tests.{section_at};
 ghost use Rattle.limits.specs.Refusals.{panel_refusal};
 
 use crate::records::panel_of;
-use limits::causes::total_thickness;
 use limits::check::Accepted;
 use limits::refusal::Refusal;
 use panel::Panel;
-use section::Section;
-use section::carry::{carried_at_start, deeper};
+use section::carry::Carried;
 use section::test::DesignValues;
+use section::{Remaining, Section};
 use std::io;
 use test_lines::input::{number, split_word};
 use test_lines::output;
@@ -46,23 +45,24 @@ pub fn answer_section(rt: &impl Print, line: &[u8]) -> io::Result<()> {
 }
 
 // No open call: no line may turn the panel back.
-fn carried_to(p: Panel, depth: u64) -> Section
+fn carried_to(p: Panel, depth: u64) -> Remaining
     requires { panel_refusal p ≡ 0 }
-    ensures { result ≡ section_at p (min depth (thickness (lamellae p))) }
+    ensures { result.section ≡ section_at p (min depth (thickness (lamellae p))) }
 {
-    let lamellae = p.lamellae();
-    let end = depth.min(u64::from(total_thickness(lamellae)));
-    let mut c = carried_at_start(lamellae);
-    while c.depth < end {
-        c = deeper(c, lamellae);
+    let mut c = Carried::start(p.lamellae());
+    while c.depth < depth {
+        let Some(next) = c.deeper() else {
+            return c.remaining();
+        };
+        c = next;
     }
-    c.section
+    c.remaining()
 }
 
 fn carried_answer(p: Panel, depth: u32) -> Result<(Section, bool), Refusal> {
     let exposed = Accepted::of(p)?.shown().panel();
     let s = carried_to(exposed, u64::from(depth));
-    Ok((s, DesignValues::of(&exposed).section_passes(s)))
+    Ok((s.section, DesignValues::of(&exposed).section_passes(s)))
 }
 
 pub fn answer_carried(rt: &impl Print, line: &[u8]) -> io::Result<()> {

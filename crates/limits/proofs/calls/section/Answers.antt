@@ -4,22 +4,11 @@ use Rattle.limits.proofs.FirstLine.{accepted_with, goes_on}
 use Rattle.limits.specs.Answers.{section_answer, accepted_answer}
 use Rattle.limits.specs.Refusals.{panel_refusal}
 use Rattle.panel.specs.Faces.{shown}
-use Rattle.panel.specs.Lamellae.{lamellae}
 use Rattle.panel.specs.declared.Panel.{Panel}
-use Rattle.section.proofs.Chains.{counted_bounds}
-use Rattle.section.proofs.NothingCut.{nothing_cut}
 use Rattle.section.specs.declared.Section.{Section}
 use Rattle.section.specs.Tests.{carries, section_at, depth_passes}
 use mathlib.Core.Path.{ap₂}
 use Rattle.limits.proofs.calls.section.Goals as goal
-
-pub section_passes-requires : goal.section_passes-requires
-section_passes-requires c =
-    let fire = c.panel-exposed.result in
-    let f = c.panel-exposed.ensures.keeps.section in
-    record {
-      section_bounds = rw c.section_at-s.ensures (counted_bounds c.args.depth (lamellae fire) f.thickness, nothing_cut c.args.depth (lamellae fire));
-    }
 
 pub returns : goal.returns
 unfolding section_answer accepted_answer

@@ -8,12 +8,10 @@ use Rattle.numbers.specs.Choice.{pick}
 use Rattle.panel.specs.Lamellae.{Lamella, lamellae}
 use Rattle.panel.specs.Timber.{factor_of}
 use Rattle.panel.specs.declared.Panel.{Panel}
-use Rattle.section.proofs.Chains.{counted_bounds}
-use Rattle.section.proofs.NothingCut.{nothing_cut}
 use Rattle.section.proofs.Shrinking.{between_carries}
 use Rattle.section.specs.Between.{carries_between}
-use Rattle.section.specs.NothingCut.{NothingCut}
-use Rattle.section.specs.Tests.{carries, section_at, depth_passes, SectionFits, SectionBounds}
+use Rattle.section.specs.Tests.{carries, section_at, depth_passes}
+use Rattle.section.specs.declared.Remaining.{Remaining}
 use Rattle.section.specs.declared.Section.{Section}
 use Rattle.section.specs.declared.test.DesignValues.{DesignValues}
 use Rattle.section.specs.Sections.{counted, section_of}
@@ -43,11 +41,6 @@ design c =
 section_here : (p : Panel) (ls : List Lamella) (s : Section) (depth : ℕ) → ls ≡ lamellae p → s ≡ section_of (counted depth ls)
     → s ≡ section_at p depth
 section_here p ls s depth lent e = e ∙ ap (λ (ms : List Lamella). section_of (counted depth ms)) lent
-
--- the section at a depth keeps the bounds
-bounds : (p : Panel) (s : Section) (depth : ℕ) → SectionFits p → s ≡ section_at p depth → SectionBounds s × NothingCut s
-bounds p s depth fits at =
-    (rw at (counted_bounds depth (lamellae p) fits.thickness), rw at (nothing_cut depth (lamellae p)))
 
 -- its test is that of the depth
 tested : (p : Panel) (s : Section) (v : DesignValues) (depth : ℕ) (b : Bool) → s ≡ section_at p depth → IsDesign p v
@@ -114,21 +107,21 @@ further c =
     (omega (arith, c.loop-reached-test.true), omega arith)
 
 -- it ends at its section
-deep_at : (c : After-section_in-deep) → c.section_in-deep.result ≡ section_at c.args.p c.min-to.result
+deep_at : (c : After-section_in-deep) → c.section_in-deep.result.section ≡ section_at c.args.p c.min-to.result
 deep_at c = section_here c.args.p _ _ _ c.lamellae-lamellae.ensures c.section_in-deep.ensures
 
 -- and begins at its edge
-edge_of : (c : Joined-single) → c.section_in-deep.result ≡ section_at c.args.p c.min-to.result
-    → c.if-single.edge ≡ section_at c.args.p (range_start c.loop-reached.reached c.min-to.result)
+edge_of : (c : Joined-single) → c.section_in-deep.result.section ≡ section_at c.args.p c.min-to.result
+    → c.if-single.edge.section ≡ section_at c.args.p (range_start c.loop-reached.reached c.min-to.result)
 edge_of c deep =
     let l = c.loop-reached in
-    edge_at c.args.p c.if-single.edge c.section_in-deep.result l.shallow l.reached _ deep l.invariant.1.1.1.0
+    edge_at c.args.p c.if-single.edge.section c.section_in-deep.result.section l.shallow.section l.reached _ deep l.invariant.1.1.1.0
     (elim c.if-single.branch [
-      | then-single w ↦ inl (eq-eqb _ _ w.if-single.true, w.edge-is)
-      | else-single w ↦ inr (ne_eqb _ _ w.if-single.false, w.edge-is)
+      | then-single w ↦ inl (eq-eqb _ _ w.if-single.true, ap (λ (r : Remaining). r.section) w.edge-is)
+      | else-single w ↦ inr (ne_eqb _ _ w.if-single.false, ap (λ (r : Remaining). r.section) w.edge-is)
     ])
 
-shallow_at : (c : After-section_in-shallow) → c.section_in-shallow.result ≡ section_at c.args.p 0
+shallow_at : (c : After-section_in-shallow) → c.section_in-shallow.result.section ≡ section_at c.args.p 0
 shallow_at c = section_here c.args.p _ _ _ c.lamellae-lamellae.ensures c.section_in-shallow.ensures
 
 pub lamellae-lamellae-requires : goal.lamellae-lamellae-requires
@@ -143,12 +136,6 @@ section_in-shallow-requires c = rw c.lamellae-lamellae.ensures c.requires.0.thic
 pub section_in-deep-requires : goal.section_in-deep-requires
 section_in-deep-requires c = rw c.lamellae-lamellae.ensures c.requires.0.thickness
 
-pub section_passes-requires : goal.section_passes-requires
-section_passes-requires c =
-    record {
-      section_bounds = bounds c.args.p c.section_in-shallow.result 0 c.requires.0 (shallow_at (goal.at.section_passes-requires c).After-section_in-shallow);
-    }
-
 pub returns-then-not-section_passes : goal.returns-then-not-section_passes
 returns-then-not-section_passes c =
     let s = c.section_in-shallow in
@@ -156,7 +143,7 @@ returns-then-not-section_passes c =
     let at = goal.at.returns-then-not-section_passes c in
     sym
     (not_every (depth_passes c.args.p) 0 c.args.deepest (omega arith)
-    (sym (tested c.args.p s.result c.of-design.result 0 passes.result (shallow_at at.After-section_in-shallow) (design at.After-of-design) passes.ensures)
+    (sym (tested c.args.p s.result.section c.of-design.result 0 passes.result (shallow_at at.After-section_in-shallow) (design at.After-of-design) passes.ensures)
     ∙ c.if-not-section_passes.true))
 
 pub loop-reached-init : goal.loop-reached-init
@@ -166,21 +153,10 @@ loop-reached-init c =
     let p = c.args.p in
     let at = goal.at.loop-reached-init c in
     let here = shallow_at at.After-section_in-shallow in
-    let first = sym (tested p s.result c.of-design.result 0 passes.result here (design at.After-of-design) passes.ensures)
+    let first = sym (tested p s.result.section c.of-design.result 0 passes.result here (design at.After-of-design) passes.ensures)
     ∙ c.if-not-section_passes.false in
     let most = c.requires.1 in
     (omega arith, (λ h. h, (omega arith, (here, λ depth u. ap (depth_passes p) (let z : depth ≡ 0 = omega arith in z) ∙ first))))
-
-pub sections_pass-requires : goal.sections_pass-requires
-sections_pass-requires c =
-    let p = c.args.p in
-    let fits = c.requires.0 in
-    let at = goal.at.sections_pass-requires c in
-    let deep = deep_at at.After-section_in-deep in
-    record {
-      shallow_bounds = bounds p c.if-single.edge _ fits (edge_of at.Joined-single deep);
-      deep_bounds = bounds p c.section_in-deep.result _ fits deep;
-    }
 
 pub loop-reached-preserved-then-sections_pass : goal.loop-reached-preserved-then-sections_pass
 loop-reached-preserved-then-sections_pass c =
@@ -196,7 +172,7 @@ loop-reached-preserved-then-sections_pass c =
           omega (arith, on.1),
           (
             deep,
-            passes_on c.args.p c.if-single.edge c.section_in-deep.result c.of-design.result c.loop-reached.reached c.min-to.result
+            passes_on c.args.p c.if-single.edge.section c.section_in-deep.result.section c.of-design.result c.loop-reached.reached c.min-to.result
                 pass.result (edge_of at.Joined-single deep) deep (design at.After-of-design) pass.ensures
                 c.loop-reached.invariant.1.1.1.1 c.if-sections_pass.true,
           ),
@@ -212,7 +188,7 @@ returns-then-single-2 c =
     let deep = deep_at at.After-section_in-deep in
     sym
     (not_every (depth_passes p) c.min-to.result c.args.deepest (further at.After-min-to).1
-    (single_fails p c.if-single.edge c.section_in-deep.result c.of-design.result c.loop-reached.reached c.min-to.result pass.result
+    (single_fails p c.if-single.edge.section c.section_in-deep.result.section c.of-design.result c.loop-reached.reached c.min-to.result pass.result
     (edge_of at.Joined-single deep) deep (design at.After-of-design) pass.ensures (eq-eqb _ _ c.if-single-2.true) c.if-sections_pass.false))
 
 pub returns : goal.returns

@@ -8,7 +8,7 @@ use Rattle.load.proofs.lasting.every_depth_passes.Given as goal
 
 abbrev pub invariant-loop-reached : goal.invariant-loop-reached
 invariant-loop-reached l = (l.reached ≤ l.deepest)
-    × ((l.reached < l.deepest → 1 ≤ l.ahead) × ((l.ahead ≤ 8000) × ((l.shallow ≡ section_at l.fn.p l.reached) × EveryTenthPasses (depth_passes l.fn.p) l.reached)))
+    × ((l.reached < l.deepest → 1 ≤ l.ahead) × ((l.ahead ≤ 8000) × ((l.shallow.section ≡ section_at l.fn.p l.reached) × EveryTenthPasses (depth_passes l.fn.p) l.reached)))
 
 -- k depths that pass take away 3k and leave 2k ahead; where they do not, less is ahead
 abbrev pub decreases-loop-reached : goal.decreases-loop-reached

@@ -1,20 +1,21 @@
 -- `load::scan::last_passing` meets its contract: every depth to the present one passes, and the first that does not decides. Assumes
 -- nothing.
-use Prim.Native.Nat.{◌-◌, ◌≤◌}
+use Prim.Native.Nat.{◌-◌}
 use Rattle.load.specs.Failure.{EveryTenthPasses}
 use Rattle.panel.specs.Lamellae.{lamellae, thickness}
+use Rattle.panel.specs.Lent.{lamellae_in}
 use Rattle.panel.specs.declared.Panel.{Panel}
-use Rattle.section.specs.Carrying.{CarriedAt}
 use Rattle.section.specs.Tests.{depth_passes}
-use Rattle.section.specs.declared.Carried.{Carried}
+use Rattle.section.specs.declared.carry.Carried.{Carried}
+use mathlib.Core.Path.{◌≡◌}
 use Rattle.load.proofs.scan.last_passing.Given as goal
 
--- what is carried to a depth of the panel
+-- what is carried along the lamellae of the panel
 abbrev pub CarriedIn : Panel → Carried → Type 0
-CarriedIn p c = CarriedAt (lamellae p) c
+CarriedIn p c = lamellae_in c.lamellae ≡ lamellae p
 
-abbrev pub invariant-loop-c : goal.invariant-loop-c
-invariant-loop-c l = CarriedIn l.fn.p l.c × ((l.c.depth ≤ thickness (lamellae l.fn.p)) × EveryTenthPasses (depth_passes l.fn.p) l.c.depth)
+abbrev pub invariant-loop-next : goal.invariant-loop-next
+invariant-loop-next l = CarriedIn l.fn.p l.c × EveryTenthPasses (depth_passes l.fn.p) l.c.depth
 
-abbrev pub decreases-loop-c : goal.decreases-loop-c
-decreases-loop-c l = thickness (lamellae l.fn.p) - l.c.depth
+abbrev pub decreases-loop-next : goal.decreases-loop-next
+decreases-loop-next l = thickness (lamellae l.fn.p) - l.c.depth

@@ -1,11 +1,11 @@
 -- `section::carry::step_of` meets its contract: each branch is a case of the step. Assumes nothing.
 use Prim.Native.Nat.{ℕ, ◌<◌}
 use mathlib.Core.Bool.{true}
-use mathlib.Core.Path.{◌≡◌, sym, ◌∙◌}
+use mathlib.Core.Path.{◌≡◌, sym, ap, ◌∙◌}
 use native.Mathlib.Omega.{arith}
 use borrow.Author.Tests.{leb-true, leb-false}
 use Rattle.section.specs.declared.Section.{Section}
-use Rattle.section.specs.Carried.{cuts_part}
+use Rattle.section.specs.Carried.{without, cuts_part}
 use Rattle.section.specs.Carrying.{HoldsPart, StepFits}
 use Rattle.section.proofs.Carrying.{cuts_when, holds_tenth, step_moves, step_drops, step_stays}
 use Rattle.section.proofs.carry.step_of.Goals as goal
@@ -18,8 +18,7 @@ held s end fits e =
 
 pub returns-then-not-s-end : goal.returns-then-not-s-end
 returns-then-not-s-end c =
-    let a = c.args in
-    sym (step_stays a.s a.end a.next c.if-not-s-end.true)
+    sym (step_stays c.args.s c.args.end _ c.if-not-s-end.true)
 
 pub take_tenth-requires : goal.take_tenth-requires
 take_tenth-requires c =
@@ -27,7 +26,7 @@ take_tenth-requires c =
     let h = held a.s a.end c.requires c.if-not-s-end.false in
     let tenth = holds_tenth a.s a.end h.1.1 h.1.0 in
     record {
-      a_bound = tenth.within;
+      lo_bound = tenth.within;
       le_n = (h.0, (omega (arith, tenth.p), omega (arith, tenth.q)));
     }
 
@@ -36,11 +35,12 @@ returns-then-is_enough c =
     let a = c.args in
     let h = held a.s a.end c.requires c.if-not-s-end.false in
     c.take_tenth.ensures
-    ∙ sym (step_moves a.s a.end a.next h.0 h.1.0 (leb-true _ _ (sym c.is_enough.ensures ∙ c.if-is_enough.true)))
+    ∙ sym (step_moves a.s a.end _ h.0 h.1.0 (leb-true _ _ (sym c.is_enough.ensures ∙ c.if-is_enough.true)))
 
-pub returns-else-is_enough : goal.returns-else-is_enough
-returns-else-is_enough c =
+pub returns : goal.returns
+returns c =
     let a = c.args in
     let h = held a.s a.end c.requires c.if-not-s-end.false in
     c.take_off.ensures
-    ∙ sym (step_drops a.s a.end a.next h.0 h.1.0 (leb-false _ _ (sym c.is_enough.ensures ∙ c.if-is_enough.false)))
+    ∙ ap (without a.s (record { from = a.s.lo; to = a.end })) c.unwrap_or.ensures
+    ∙ sym (step_drops a.s a.end _ h.0 h.1.0 (leb-false _ _ (sym c.is_enough.ensures ∙ c.if-is_enough.false)))

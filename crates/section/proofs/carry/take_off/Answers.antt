@@ -6,12 +6,12 @@ use Rattle.section.proofs.carry.take_off.Goals as goal
 pub returns : goal.returns
 unfolding without
 returns c =
-    let a = c.args in
+    let s = c.args.s in
     λ i.
     record {
-      n = a.s.n - (a.b - a.a);
-      p = a.s.p - c.squares.ensures.0 i;
-      q = a.s.q - c.cubes.ensures.0 i;
-      lo = a.lo;
+      n = s.n - (c.args.part.to - c.args.part.from);
+      p = s.p - c.squares.ensures.0 i;
+      q = s.q - c.cubes.ensures.0 i;
+      lo = c.args.lo;
       hi = c.where_none.ensures i;
     }

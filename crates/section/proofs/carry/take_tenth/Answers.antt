@@ -19,12 +19,12 @@ cubes_one a = omega arith
 pub returns : goal.returns
 unfolding without
 returns c =
-    let a = c.args in
+    let s = c.args.s in
     λ i.
     record {
-      n = a.s.n - length_one a.a i;
-      p = a.s.p - squares_one a.a i;
-      q = a.s.q - cubes_one a.a i;
-      lo = a.a + 1;
-      hi = (c.where_none.ensures ∙ ap (λ (d : ℕ). pick (eqb (a.s.n - d) 0) 0 a.s.hi) (length_one a.a)) i;
+      n = s.n - length_one s.lo i;
+      p = s.p - squares_one s.lo i;
+      q = s.q - cubes_one s.lo i;
+      lo = s.lo + 1;
+      hi = (c.where_none.ensures ∙ ap (λ (d : ℕ). pick (eqb (s.n - d) 0) 0 s.hi) (length_one s.lo)) i;
     }

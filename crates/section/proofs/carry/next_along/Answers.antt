@@ -1,4 +1,4 @@
--- `section::carry::first_along` meets its contract. The invariant: what is sought is the same from the next lamella on.
+-- `section::carry::next_along` meets its contract. The invariant: what is sought is the same from the next lamella on.
 use Prim.Native.Nat.{◌<◌}
 use mathlib.Core.Path.{◌≡◌}
 use native.Mathlib.Omega.{arith}
@@ -7,9 +7,9 @@ use lib.ListN.{length, get_or, length-append}
 use Rattle.panel.proofs.Lent.{next_lamella, no_lamella_left}
 use Rattle.panel.specs.Lamellae.{lamella}
 use Rattle.panel.specs.Lent.{lamellae_in}
-use Rattle.section.proofs.FirstAlong.{sought_more, sought_fits, sought_found, sought_none}
-use Rattle.section.proofs.carry.first_along.Goals as goal
-use Rattle.section.proofs.carry.first_along.Goals.{In-Some}
+use Rattle.section.proofs.NextAlong.{sought_more, sought_fits, sought_found, sought_none}
+use Rattle.section.proofs.carry.next_along.Goals as goal
+use Rattle.section.proofs.carry.next_along.Goals.{In-Some}
 
 turn : (c : In-Some) → (length c.loop-direction.yielded < length (lamellae_in c.args.lamellae))
     × (get_or (lamellae_in c.args.lamellae) (length c.loop-direction.yielded) (lamella 0 0) ≡ lamella c.in-Some.direction.now c.in-Some.thick.now)
