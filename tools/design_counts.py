@@ -916,7 +916,7 @@ def reasons():
         for i, line in enumerate(x.lines):
             if "//" in line and REASON.search(line):
                 j = i + 1
-                while j < len(x.lines) and x.lines[j].lstrip().startswith("//"):
+                while j < len(x.lines) and x.lines[j].lstrip().startswith(("//", "#[")):  # attributes stand between
                     j += 1
                 lines |= {i + 1, j + 1}
         for f in x.fns:
