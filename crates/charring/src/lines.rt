@@ -29,7 +29,8 @@ impl<'a> Lines<'a> {
     ghost use Rattle.charring.specs.Fires.{bond_lines};
     ghost use Rattle.charring.specs.Ways.{lines_left};
 
-    // The lines of a panel. Where the bond holds there are none. No open call: the limits must hold.
+    // The lines of a panel. Where the bond holds there are none. No open call: the limits must hold. The bond's number is kept as it is: a
+    // panel is plain data, whose raw numbers calls refuse.
     pub(crate) fn of(p: &'a Panel) -> Lines<'a>
         requires { FireFits p.now }
         ensures { lines_left result ≡ bond_lines p.now }
