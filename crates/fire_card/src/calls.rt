@@ -29,7 +29,7 @@ pub fn card(bytes: &[u8], out: &mut [u8]) -> Result<usize, Refusal>
     deliver(text.as_slice(), out)
 }
 
-// The text of a refusal.
+// The text of a refusal. Its number is kept as it is: any is printed, not those alone that a `Refusal` has.
 pub fn refusal(n: u8, out: &mut [u8]) -> Result<usize, Refusal>
     ensures value { by_number result ≡ refusal_answer n out.old }
     ensures out_after { out.new ≡ refusal_after n out.old }

@@ -32,26 +32,36 @@ fn push_chars(text: &mut Text<CARD_MOST>, fire: &Fire)
     }
 }
 
-fn push_load(text: &mut Text<CARD_MOST>, load: u16, seconds: u16)
-    requires load_le_last_minute { load ≤ last_minute }
+// What a card rates a panel by: its load minute, the same in seconds, and its EI minute.
+#[derive(Clone, Copy)]
+struct Ratings {
+    load: u16,
+    seconds: u16,
+    ei: u16,
+    ghost load_most: { load ≤ last_minute },
+    ghost ei_most: { ei ≤ last_minute },
+}
+
+fn push_load(text: &mut Text<CARD_MOST>, ratings: Ratings)
     requires room { length text.old + 41 ≤ card_most }
-    ensures added { text.new ≡ text.old ++ load_lines load seconds }
+    ensures added { text.new ≡ text.old ++ load_lines ratings.load ratings.seconds }
     ensures most { length text.new ≤ length text.old + 41 }
 {
+    let Ratings { load, seconds, .. } = ratings;
     let r = Grade::of(load);
     text.push_line(b"R", &[u32::from(load), u32::from(r.minutes)]);
     let minutes = u32::from(minutes_in(seconds));
     text.push_time(b"RS", minutes, seconds_over(seconds));
 }
 
-fn push_ratings(text: &mut Text<CARD_MOST>, load: u16, seconds: u16, ei: u16)
-    requires load_le_last_minute { (load ≤ last_minute) × (ei ≤ last_minute) }
+fn push_ratings(text: &mut Text<CARD_MOST>, ratings: Ratings)
     requires room { length text.old + 81 ≤ card_most }
-    ensures { text.new ≡ text.old ++ rating_lines load seconds ei }
+    ensures { text.new ≡ text.old ++ rating_lines ratings.load ratings.seconds ratings.ei }
 {
+    let Ratings { load, ei, .. } = ratings;
     let e = Grade::of(ei);
     let both = Grade::of_lower(load, ei);
-    push_load(text, load, seconds);
+    push_load(text, ratings);
     text.push_line(b"EI", &[u32::from(ei), u32::from(e.minutes)]);
     text.push_line(b"REI", &[u32::from(both.minutes)]);
 }
@@ -62,11 +72,14 @@ pub(crate) fn text_of_card(accepted: Accepted) -> Text<CARD_MOST>
 {
     let panel = accepted.panel();
     let seconds = load_seconds_of(panel);
-    let load = minutes_in(seconds);
-    let ei = ei_minute_of(panel);
+    let ratings = Ratings {
+        load: minutes_in(seconds),
+        seconds,
+        ei: ei_minute_of(panel) as u16,
+    };
     let mut text = Text::new();
     text.push_line(b"CARD", &[u32::from(panel.version)]);
     push_chars(&mut text, &Fire::of(accepted.shown().panel()));
-    push_ratings(&mut text, load, seconds, ei as u16);
+    push_ratings(&mut text, ratings);
     text
 }

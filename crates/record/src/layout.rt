@@ -61,10 +61,10 @@ pub(crate) fn front(version: u8) -> usize
     if version == 2 { FRONT_2 } else { FRONT_1 }
 }
 
-// What places and lengths depend on: the version, and c, the number of boards.
+// What places and lengths depend on: the version, whose number is kept as it is, and c, the number of boards.
 #[derive(Clone, Copy)]
 pub(crate) struct Layout {
-    pub version: u8, // kept as it is: a panel's raw number
+    pub version: u8,
     pub boards: u8,
 }
 

@@ -11,6 +11,6 @@ mod writer;
 // heap; a tuple would lose the names that contracts use, and two `array::from_fn` would differ in the field alone.
 #[derive(Clone, Copy)]
 pub struct Lamellae {
-    pub directions: [u8; 9], // kept as it is: a panel's raw numbers
+    pub directions: [u8; 9],
     pub thicknesses: [u16; 9],
 }

@@ -12,23 +12,26 @@ pub of-requires : goal.of-requires
 of-requires c = fire_fits c.panel.result c.panel.ensures.accepted
 
 -- the minutes of the seconds are the printed load minute
-pub push_ratings-requires-clause-load_le_last_minute : goal.push_ratings-requires-clause-load_le_last_minute
-push_ratings-requires-clause-load_le_last_minute c =
+pub invariant_of-ratings : goal.invariant_of-ratings
+invariant_of-ratings c =
     let p = c.panel-panel.result in
-    let load : c.minutes_in-load.result ≡ printed_load p =
-    c.minutes_in-load.ensures ∙ ap minutes_in c.load_seconds_of-seconds.ensures ∙ minutes_printed p c.panel-panel.ensures.accepted in
-    (subst (λ (m : ℕ). m ≤ 360) (sym load) (printed_most p), c.ei_minute_of-ei.ensures.1)
+    let load : c.minutes_in.result ≡ printed_load p =
+    c.minutes_in.ensures ∙ ap minutes_in c.load_seconds_of-seconds.ensures ∙ minutes_printed p c.panel-panel.ensures.accepted in
+    record {
+      load_most = subst (λ (m : ℕ). m ≤ 360) (sym load) (printed_most p);
+      ei_most = c.ei_minute_of.ensures.1;
+    }
 
 pub returns : goal.returns
 unfolding text_of_card
 returns c =
     let p = c.panel-panel.result in
-    let load : c.minutes_in-load.result ≡ printed_load p =
-    c.minutes_in-load.ensures ∙ ap minutes_in c.load_seconds_of-seconds.ensures ∙ minutes_printed p c.panel-panel.ensures.accepted in
+    let load : c.minutes_in.result ≡ printed_load p =
+    c.minutes_in.ensures ∙ ap minutes_in c.load_seconds_of-seconds.ensures ∙ minutes_printed p c.panel-panel.ensures.accepted in
     let head = c.push_line.ensures.added ∙ ap₂ (λ (text : List ℕ) (n : ℕ). text ++ text_line card_head (n ∷ [])) c.new-text.ensures c.from.ensures in
     let chars = c.push_chars.ensures.added ∙ ap₂ (λ (text lines : List ℕ). text ++ lines) head (ap char_lines (c.of.ensures ∙ c.panel.ensures.panel ∙ c.shown.ensures ∙ ap shown (sym c.panel-panel.ensures.panel))) in
     c.push_ratings.ensures
-    ∙ ap₂ (λ (text : List ℕ) (m : ℕ). text ++ rating_lines m c.load_seconds_of-seconds.result c.ei_minute_of-ei.result) chars load
+    ∙ ap₂ (λ (text : List ℕ) (m : ℕ). text ++ rating_lines m c.load_seconds_of-seconds.result c.ei_minute_of.result) chars load
     ∙ ap₂ (λ (s ei : ℕ). text_line card_head (p.version ∷ []) ++ char_lines (shown p) ++ rating_lines (printed_load p) s ei)
-    c.load_seconds_of-seconds.ensures c.ei_minute_of-ei.ensures.0
+    c.load_seconds_of-seconds.ensures c.ei_minute_of.ensures.0
     ∙ ap text_of_card c.panel-panel.ensures.panel
