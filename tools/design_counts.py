@@ -8,7 +8,7 @@
 
 It goes by patterns, and so counts too many here and too few there: docs/DESIGN-PASS.md says where. A total counts the lines on which a
 place begins, each once. Kinds marked "listed" are for reading: their lines are in no total. A place is marked "kept" where a comment
-on its line, above it or above its function says that something "stays as it is" or is "kept as it is".
+on its line, above it or above its function or type says that something "stays as it is" or "is kept as it is".
 """
 import argparse
 import collections
@@ -112,7 +112,7 @@ class File:
             inside = t[t.index("(", i) + 1 : j - 1]
             f.params = [tuple(x.strip() for x in p.split(":", 1)) for p in parts(inside) if ":" in p]
             f.params = [(re.sub(r"^mut\s+", "", a), b) for a, b in f.params]
-            head = re.compile(r"\s*(?:->\s*([^{;]*?))?\s*(?=\brequires\b|\bensures\b|\bdecreases\b|\bwhere\b|\{|;)").match(t, j)
+            head = re.compile(r"\s*(?:->\s*((?:\[[^\]]*\]|[^{;\[])*?))?\s*(?=\brequires\b|\bensures\b|\bdecreases\b|\bwhere\b|\{|;)").match(t, j)
             f.ret = " ".join((head.group(1) or "").split()) if head else ""
             i = head.end() if head else j
             f.requires, f.ensures = [], []
@@ -916,12 +916,15 @@ def reasons():
         for i, line in enumerate(x.lines):
             if "//" in line and REASON.search(line):
                 j = i + 1
-                while j < len(x.lines) and x.lines[j].lstrip().startswith("//"):
+                while j < len(x.lines) and x.lines[j].lstrip().startswith(("//", "#[")):  # attributes stand between
                     j += 1
                 lines |= {i + 1, j + 1}
         for f in x.fns:
             if f.line in lines:
                 lines |= set(range(f.line, x.line(f.end) + 1))
+        for m in re.finditer(r"^(?:pub(?:\(\w+\))? )?(?:struct|enum) [^;{]*\{", x.text, re.M):
+            if x.line(m.start()) in lines:
+                lines |= set(range(x.line(m.start()), x.line(closing(x.text, m.end() - 1, "{}")) + 1))
         kept[x.name] = lines
     return kept
 

@@ -19,6 +19,7 @@ fn bare_line(m: Material) -> Refusal
     }
 }
 
+// The material and the thickness are kept as they are, apart: see `bad_thickness` (panel).
 pub fn basic_time(role: Role, m: Material, h: u16) -> Result<u32, Refusal>
     ensures { by_number result ≡ time_answer role m h }
 {

@@ -9,7 +9,7 @@ use crate::{
     particle_board_insulation, particle_board_protection, wood_insulation, wood_protection,
 };
 use panel::Material;
-use panel::materials::thinnest;
+use panel::materials::thicknesses;
 
 // The basic times of a role and a material, from the thinnest layer on. They are held to their rule by computing its list.
 #[derive(Clone, Copy)]
@@ -26,11 +26,11 @@ impl Table {
         requires { ThicknessKeeps self.material h }
         ensures { (result ≡ basic_time self.role self.material h) × (result ≤ longest_time) }
     {
-        self.entries[usize::from(h - thinnest(self.material))]
+        self.entries[usize::from(h - *thicknesses(self.material).start())]
     }
 }
 
-// No open call: a layer of the material must be allowed the thickness, in tenths of mm.
+// No open call: a layer of the material must be allowed the thickness, in tenths of mm. The two are kept as they are: see `bad_thickness`.
 pub fn time_at(role: Role, m: Material, h: u16) -> u32
     requires { ThicknessKeeps m h }
     ensures { (result ≡ basic_time role m h) × (result ≤ longest_time) }

@@ -19,8 +19,8 @@ impl<const N: usize> Model for Text<N> {
     ghost invariant = { λ t. t.length ≤ N };
 }
 
-// The digits of a number, to the end of ten bytes. Answers the place of the first. By hand, since `write!` was tried and leaves its goal
-// open: it promises the digits only where it answers `Ok`, and no clause of std says that it does.
+// The digits of a number, to the end of ten bytes. Answers the place of the first. The digits are kept as they are, by hand and by casts:
+// `write!` was tried and leaves its goal open, since it promises them only where it answers `Ok`, and no clause of std says that it does.
 fn put_digits(bytes: &mut [u8; 10], n: u32) -> usize
     ensures { (result ≤ 9) × (drop result bytes.new ≡ decimal n) }
 {
@@ -70,6 +70,7 @@ impl<const N: usize> Text<N> {
         self.length = end;
     }
 
+    // The digits are kept as they are, to the end of an array: see `put_digits`.
     fn push_number(&mut self, n: u32)
         requires { length self.old + 10 ≤ N }
         ensures added { self.new ≡ self.old ++ decimal n }
@@ -105,7 +106,7 @@ impl<const N: usize> Text<N> {
     }
 
     // A line with a time: its head, a blank, the minutes, a colon, the seconds in two digits, and a line feed. No open call: the longest
-    // such line must fit.
+    // such line must fit. The digits of the seconds are kept as they are: see `put_digits`.
     pub fn push_time(&mut self, head: &[u8], minutes: u32, seconds: u8)
         requires { length self.old + length head.now + 15 ≤ N }
         ensures added { self.new ≡ self.old ++ time_line head.now minutes seconds }

@@ -1,6 +1,7 @@
 -- What the open calls of this crate answer, by document 01's number, and what the depth table leaves in its lent space. Depths
 -- and phases are those of the fire that is shown.
-use Rattle.std.specs.Prelude.{ℕ, suc, List, [], ◌∷◌, ◌++◌, length, drop, ltb, Result}
+use Rattle.std.specs.Prelude.{ℕ, ◌≡◌, suc, List, [], ◌∷◌, ◌++◌, length, drop, ltb, Result}
+use Rattle.charring.specs.declared.Fire.{Fire}
 use Rattle.charring.specs.declared.Phase.{Phase}
 use Rattle.numbers.specs.Firsts.{firsts}
 use Rattle.panel.specs.declared.Panel.{Panel}
@@ -18,6 +19,10 @@ minute_refusal p minute = refusal (panel_lines p ++ (line 15 (bad_minute minute)
 -- a panel that no line refuses, asked for a minute
 unfoldable pub asked_answer : Panel → ℕ → Result Panel ℕ
 asked_answer p minute = unless_refused (minute_refusal p minute) p
+
+-- the only value that a relation, as that of a closure's calls, allows of the fire of a panel at a minute
+abbrev pub GivesOnly : {A : Type 0} → (Fire → ℕ → A → Type 0) → Panel → ℕ → A → Type 0
+GivesOnly {A} gives p minute value = (fire : Fire) (given : A) → fire.panel ≡ p → gives fire minute given → given ≡ value
 
 -- the phase at a whole minute
 unfoldable pub phase_answer : Panel → ℕ → Result Phase ℕ

@@ -1,8 +1,11 @@
 // The open calls of this crate: they ask nothing of their caller. Depths and phases are those of the fire that is shown.
-ghost use Rattle.std.specs.Prelude.{◌≡◌};
+ghost use Rattle.std.specs.Prelude.{◌≡◌, ◌≤◌, ℕ};
 ghost use Rattle.panel.specs.Faces.{shown};
 ghost use Rattle.limits.specs.Numbers.{by_number};
-ghost use Rattle.charring.specs.Answers.{asked_answer, phase_answer, char_answer, effective_answer, table_answer, table_after};
+ghost use Rattle.limits.specs.Lines.{unless_refused};
+ghost use Rattle.limits.specs.Causes.{last_minute};
+ghost use Rattle.charring.specs.declared.Fire.{Fire};
+ghost use Rattle.charring.specs.Answers.{GivesOnly, minute_refusal, asked_answer, phase_answer, char_answer, effective_answer, table_answer, table_after};
 
 use crate::{ENTRIES, Fire, Phase, Time};
 use limits::LAST_MINUTE;
@@ -27,28 +30,34 @@ fn shown_fire(accepted: Accepted) -> Fire
     Fire::of(accepted.shown().panel())
 }
 
+// What is worked out of the fire that is shown at a whole minute. No open call: of every fire it must be worked out up to the last minute.
+fn at_minute<T, F: FnOnce(Fire, u64) -> T>(p: Panel, minute: u16, of: F) -> Result<T, Refusal>
+    requires { (fire : Fire) (at : ℕ) → at ≤ last_minute → F.pre of fire at }
+    ensures { (value : T) → GivesOnly (F.post of) (shown p) minute value → by_number result ≡ unless_refused (minute_refusal p minute) value }
+{
+    let accepted = asked(p, minute)?;
+    Ok(of(shown_fire(accepted), u64::from(minute)))
+}
+
 // The phase at a whole minute.
 pub fn phase(p: Panel, minute: u16) -> Result<Phase, Refusal>
     ensures { by_number result ≡ phase_answer p minute }
 {
-    let accepted = asked(p, minute)?;
-    Ok(shown_fire(accepted).phase(Time::minute(u64::from(minute))))
+    at_minute(p, minute, |fire, at| fire.phase(Time::minute(at)))
 }
 
 // The char depth at a whole minute, in micrometres, rounded up.
 pub fn char_depth(p: Panel, minute: u16) -> Result<u32, Refusal>
     ensures { by_number result ≡ char_answer p minute }
 {
-    let accepted = asked(p, minute)?;
-    Ok(shown_fire(accepted).micrometres(u64::from(minute)))
+    at_minute(p, minute, |fire, at| fire.micrometres(at))
 }
 
 // The effective depth at a whole minute, in tenths of mm, rounded up.
 pub fn effective_depth(p: Panel, minute: u16) -> Result<u32, Refusal>
     ensures { by_number result ≡ effective_answer p minute }
 {
-    let accepted = asked(p, minute)?;
-    Ok(shown_fire(accepted).tenths(Time::minute(u64::from(minute))))
+    at_minute(p, minute, |fire, at| fire.tenths(Time::minute(at)))
 }
 
 // The char depths of minutes 0 to 360 in micrometres, rounded up, into the lent space.

@@ -6,7 +6,7 @@ ghost use Rattle.charring.specs.Depths.{char_at, effective_at, micrometres_at, t
 
 use crate::{Fire, Time};
 
-// No open call: the divisor must be there, and what comes out must fit.
+// No open call: the divisor must be there, and what comes out must fit. The cast is kept as it is: the error of a `try_from` would never be.
 fn rounded_up(n: u64, d: u64) -> u32
     requires le_d { (20000 ≤ d) × (d ≤ 6720000) }
     requires n_bound { n ≤ 2 * d * 400000000000 }
@@ -27,7 +27,7 @@ impl Fire {
         (under + self.after(at)).min(2 * at.scaled(self.back))
     }
 
-    // The char depth at a whole minute in micrometres, rounded up.
+    // The char depth at a whole minute in micrometres, rounded up. The cast is kept as it is: see `rounded_up`.
     pub fn micrometres(&self, minute: u64) -> u32
         requires { minute ≤ last_minute }
         ensures { result ≡ micrometres_at self.now.panel minute 1 }

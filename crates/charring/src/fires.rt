@@ -69,7 +69,7 @@ fn passed_end(lines: Lines<'_>, deep: u64, intact: u64) -> u64
 }
 
 impl Fire {
-    // No open call: the limits of lines 3, 4, 8, 9, 10 and 11 must hold.
+    // No open call: the limits of lines 3, 4, 8, 9, 10 and 11 must hold. What is asked stays as it is: what is made here says it from then on.
     pub fn of(panel: Panel) -> Fire
         requires { FireFits panel }
         ensures { result.panel ≡ panel }

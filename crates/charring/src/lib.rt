@@ -24,7 +24,7 @@ const TENTH: u64 = 100000000;
 // 25 mm, in picometres: how far a fast run goes.
 const FAST_RUN: u64 = 25000000000;
 
-// The entries of a depth table: one for each minute.
+// The entries of a depth table: one for each minute. The cast is kept as it is: no constant can call `usize::from`.
 const ENTRIES: usize = LAST_MINUTE as usize + 1;
 
 // The phase of the char. A fast phase carries the char depth where it ends, in hundred-thousandths of mm.

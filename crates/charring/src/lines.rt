@@ -1,7 +1,7 @@
 // The bond lines that matter, one after the other from the exposed face.
 ghost use Rattle.std.specs.Prelude.{◌≡◌, ◌+◌, ◌*◌, ◌≤◌};
 ghost use Rattle.panel.specs.Lamellae.{thickness};
-ghost use Rattle.charring.specs.Fires.{tenth, fast_run, lines_from, line_end};
+ghost use Rattle.charring.specs.Fires.{tenth, fast_run, line_end};
 ghost use Rattle.charring.specs.Fits.{FireFits};
 ghost use Rattle.charring.specs.Lines.{by_thickness};
 
@@ -25,23 +25,12 @@ pub(crate) struct Lines<'a> {
     ghost within: { top + tenth * thickness (by_thickness rest.now) ≤ 400000000000 },
 }
 
-// 25 mm past a line or at the next line, whichever is nearer, by the lamellae below it.
-fn run_end(line: u64, rest: &[u16]) -> u64
-    requires { line ≤ 400000000000 }
-    ensures { (result ≡ line_end line (lines_from line (by_thickness rest.now))) × (result ≤ line + fast_run) }
-{
-    let past = line + FAST_RUN;
-    match rest {
-        [next, _, ..] => past.min(line + TENTH * u64::from(*next)),
-        _ => past,
-    }
-}
-
 impl<'a> Lines<'a> {
     ghost use Rattle.charring.specs.Fires.{bond_lines};
     ghost use Rattle.charring.specs.Ways.{lines_left};
 
-    // The lines of a panel. Where the bond holds there are none. No open call: the limits must hold.
+    // The lines of a panel. Where the bond holds there are none. No open call: the limits must hold. The bond's number is kept as it is: a
+    // panel is plain data, whose raw numbers calls refuse.
     pub(crate) fn of(p: &'a Panel) -> Lines<'a>
         requires { FireFits p.now }
         ensures { lines_left result ≡ bond_lines p.now }
@@ -52,6 +41,17 @@ impl<'a> Lines<'a> {
         Lines {
             top: 0,
             rest: &p.thicknesses[..p.count],
+        }
+    }
+
+    // Where a run ends that starts where these begin: 25 mm past that depth or at the next line, whichever is nearer.
+    fn run_end(&self) -> u64
+        ensures { (result ≡ line_end self.now.top (lines_left self.now)) × (result ≤ self.now.top + fast_run) }
+    {
+        let past = self.top + FAST_RUN;
+        match self.rest {
+            [next, _, ..] => past.min(self.top + TENTH * u64::from(*next)),
+            _ => past,
         }
     }
 }
@@ -77,7 +77,7 @@ impl Iterator for Lines<'_> {
         self.rest = rest;
         Some(Line {
             at,
-            end: run_end(at, rest),
+            end: self.run_end(),
         })
     }
 }

@@ -6,16 +6,18 @@ ghost use Rattle.charring.specs.Phases.{phase_on, phase_at};
 ghost use Rattle.charring.specs.Fits.{phase_in};
 
 use crate::lines::Lines;
-use crate::{Fire, Phase, Time};
+use crate::{Fire, Phase, Place, Time};
 
-fn phase_in(left: u64, fast: u64, end: u64) -> Phase
-    requires { end ≤ 425000000000 }
-    ensures { result ≡ phase_in (ltb left fast) end }
-{
-    if left < fast {
-        Phase::Fast((end / 10000) as u32)
-    } else {
-        Phase::Settled
+impl Place {
+    // In a stretch whose fast part is so long, times q. The cast is kept as it is: the error of a `try_from` would never be.
+    fn phase_in(self, fast: u64) -> Phase
+        ensures { result ≡ phase_in (ltb self.left fast) self.end }
+    {
+        if self.left < fast {
+            Phase::Fast((self.end / 10000) as u32)
+        } else {
+            Phase::Settled
+        }
     }
 }
 
@@ -26,16 +28,17 @@ impl Fire {
     {
         let mut place = self.at_failure(at);
         for line in Lines::of(&self.panel) {
-            let fast = place.fast_part(line.at, at);
-            let settled = place.settled_part(line.at, at);
+            let fast = place.fast_part(line, at);
+            let settled = place.settled_part(line, at);
             if place.left < fast + 2 * settled {
-                return phase_in(place.left, fast, place.end);
+                return place.phase_in(fast);
             }
             place = place.pass(line, at);
         }
-        phase_in(place.left, place.fast_part(self.back, at), place.end)
+        place.phase_in(place.fast_part(self.back_line(), at))
     }
 
+    // Four tests, each of another kind, which stay as they are: the first that holds decides.
     pub(crate) fn phase(&self, at: Time) -> Phase
         ensures { result ≡ phase_at self.now.panel at.n at.q }
     {

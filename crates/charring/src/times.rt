@@ -14,7 +14,7 @@ impl Time {
         Time { n, q }
     }
 
-    // A whole minute.
+    // A whole minute. It and `second` are kept as they are: each says in one line what a call site means.
     pub fn minute(minute: u64) -> Time
         requires { minute ≤ last_minute }
         ensures { (result.n ≡ minute) × (result.q ≡ 1) }
@@ -22,7 +22,7 @@ impl Time {
         Time { n: minute, q: 1 }
     }
 
-    // A whole second.
+    // A whole second. Kept as it is: see `minute`.
     pub fn second(second: u64) -> Time
         requires { second ≤ 60 * last_minute }
         ensures { (result.n ≡ second) × (result.q ≡ 60) }

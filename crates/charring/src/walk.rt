@@ -8,32 +8,29 @@ use crate::lines::{Line, Lines};
 use crate::{Fire, Place, Time};
 
 impl Place {
-    // The parts of the stretch from here to a depth, times q.
-    pub(crate) fn fast_part(self, to: u64, at: Time) -> u64
-        requires { to ≤ 400000000000 }
-        ensures { (result ≡ at.q * (min self.end to - self.from)) × (result ≤ 24000000000000) }
+    // The parts of the stretch from here to a line, times q.
+    pub(crate) fn fast_part(self, line: Line, at: Time) -> u64
+        ensures { (result ≡ at.q * (min self.end line.at - self.from)) × (result ≤ 24000000000000) }
     {
-        at.scaled(self.end.min(to).saturating_sub(self.from))
+        at.scaled(self.end.min(line.at).saturating_sub(self.from))
     }
 
-    pub(crate) fn settled_part(self, to: u64, at: Time) -> u64
-        requires { to ≤ 400000000000 }
-        ensures { (result ≡ at.q * (to - max self.from self.end)) × (result ≤ 24000000000000) }
+    pub(crate) fn settled_part(self, line: Line, at: Time) -> u64
+        ensures { (result ≡ at.q * (line.at - max self.from self.end)) × (result ≤ 24000000000000) }
     {
-        at.scaled(to.saturating_sub(self.from.max(self.end)))
+        at.scaled(line.at.saturating_sub(self.from.max(self.end)))
     }
 
-    // To the end of a stretch, where a run starts that ends at `end`.
-    fn cross(self, to: u64, end: u64, at: Time) -> Place
-        requires { (to ≤ 400000000000) × (end ≤ 425000000000) }
-        ensures { Crossed at.q self to end result }
+    // To the end of a stretch, where the line's run starts.
+    fn cross(self, line: Line, at: Time) -> Place
+        ensures { Crossed at.q self line.at line.end result }
     {
-        let fast = self.fast_part(to, at);
-        let settled = self.settled_part(to, at);
+        let fast = self.fast_part(line, at);
+        let settled = self.settled_part(line, at);
         let past_fast = self.left.saturating_sub(fast);
         Place {
-            from: to,
-            end,
+            from: line.at,
+            end: line.end,
             left: past_fast.saturating_sub(2 * settled),
             gained: self.gained + 2 * self.left.min(fast) + past_fast.min(2 * settled),
         }
@@ -44,7 +41,7 @@ impl Place {
         ensures { Passed at.q self line result }
     {
         if self.from <= line.at {
-            self.cross(line.at, line.end, at)
+            self.cross(line, at)
         } else {
             self
         }
@@ -66,6 +63,16 @@ impl Fire {
         }
     }
 
+    // The back face, as the last line of the way. No run starts there.
+    pub(crate) fn back_line(&self) -> Line
+        ensures { (result.at ≡ self.now.back) × (result.end ≡ self.now.back) }
+    {
+        Line {
+            at: self.back,
+            end: self.back,
+        }
+    }
+
     // What has charred since t_f, in half picometres, times q.
     pub(crate) fn after(&self, at: Time) -> u64
         ensures { (result ≡ after_at self.now.panel at.n at.q) × (result ≤ 86400000000000) }
@@ -74,7 +81,6 @@ impl Fire {
         for line in Lines::of(&self.panel) {
             place = place.pass(line, at);
         }
-        // No run starts at the back face.
-        place.cross(self.back, self.back, at).gained
+        place.cross(self.back_line(), at).gained
     }
 }

@@ -4,14 +4,15 @@ ghost use Rattle.std.specs.Prelude.{◌≡◌, ◌+◌, ◌≤◌, length, drop}
 ghost use Rattle.std.proofs.lemmas.List.Edits.{sets};
 ghost use Rattle.numbers.specs.Bytes.{number, places};
 
-// The byte at a place.
+// The byte at a place. The slice and the place are kept as they are, here and below: the slice from the place on would have to be cut by the
+// caller, past its end too.
 pub fn byte_at(s: &[u8], at: usize) -> u8
     ensures { result ≡ number s.now at 1 }
 {
     s.get(at).copied().unwrap_or(0)
 }
 
-// The N bytes from `at` on.
+// The N bytes from `at` on. The slice, the place and the part that is copied are kept as they are: what is not there reads as 0.
 pub fn bytes_at<const N: usize>(s: &[u8], at: usize) -> [u8; N]
     ensures { result ≡ places s.now at N }
 {
@@ -22,14 +23,15 @@ pub fn bytes_at<const N: usize>(s: &[u8], at: usize) -> [u8; N]
     bytes
 }
 
-// The slice from `at` on; nothing where it ends before.
+// The slice from `at` on; nothing where it ends before. The two are kept as they are: see `byte_at`.
 pub fn part_from(s: &[u8], at: usize) -> &[u8]
     ensures { result.now ≡ drop at s.now }
 {
     &s[at.min(s.len())..]
 }
 
-// No open call: the N bytes from `at` on must be there.
+// No open call: the N bytes from `at` on must be there. The place and the room are kept as they are: of an array lent in its place
+// (`first_chunk_mut`) the caller would have an `Option`, whose `None` never is.
 pub fn put<const N: usize>(out: &mut [u8], at: usize, bytes: [u8; N])
     requires { at + N ≤ length out.old }
     ensures { out.new ≡ sets out.old at bytes.entry }

@@ -17,7 +17,8 @@ pub fn is_known(b: Board) -> bool
     matches!(b.kind, b'A' | b'F' | b'H') || is_wood_based(b)
 }
 
-// What boards of a type are made of.
+// What boards of a type are made of. The type, here and in `is_f`, and the gap below are numbers that are kept as they are: a panel is plain
+// data, whose raw numbers calls refuse.
 #[tactic(auto, unfolding(crate::specs::Boards::material_of))]
 pub fn material_of(kind: u8) -> Material
     ensures { result ≡ material_of kind }
@@ -29,6 +30,7 @@ pub fn material_of(kind: u8) -> Material
     }
 }
 
+// The letter is kept as it is: see `material_of`.
 pub fn is_f(b: Board) -> bool
     ensures { result ≡ is_f b }
 {
@@ -44,6 +46,7 @@ pub fn type_f(c: Cladding) -> bool
     }
 }
 
+// The gap's number is kept as it is: see `material_of`.
 fn gap_loss(gap: u8) -> u32
     ensures { result ≡ gap_loss gap }
 {
@@ -80,7 +83,7 @@ fn start_behind(b: Board, loss: u32) -> u32
     }
 }
 
-// t_ch in thousandths of a minute.
+// t_ch in thousandths of a minute. The gap's number is kept as it is: see `material_of`.
 pub fn charring_start(gap: u8, c: Cladding) -> u32
     ensures { result ≡ charring_start gap c }
 {

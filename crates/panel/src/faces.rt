@@ -4,7 +4,8 @@ ghost use Rattle.panel.specs.Faces.{turned, shown};
 
 use crate::Panel;
 
-// An array with its used places in reverse, and the others unused.
+// An array with its used places in reverse, and the others unused. The array and the count are kept as they are, since a panel holds both by
+// value; there is no heap.
 fn last_first<T: Copy>(places: [T; 9], count: usize, unused: T) -> [T; 9]
     requires { count ≤ 9 }
     ensures { result ≡ reverse (take count places) ++ replicate (9 - count) unused }
@@ -16,7 +17,8 @@ fn last_first<T: Copy>(places: [T; 9], count: usize, unused: T) -> [T; 9]
     turned
 }
 
-// The panel with its last face first. No open call: the count must be at most 9.
+// The panel with its last face first. No open call: the count must be at most 9, which is kept as it is, as are the arrays: a panel is plain
+// data, and one that calls have checked is turned by `Accepted` (limits).
 pub fn turned(p: Panel) -> Panel
     requires { p.count ≤ 9 }
     ensures { result ≡ turned p }
@@ -28,7 +30,8 @@ pub fn turned(p: Panel) -> Panel
     }
 }
 
-// The panel whose depths and section are shown. No open call: the count must be at most 9.
+// The panel whose depths and section are shown. No open call: the count must be at most 9. It and the face's number are kept as they are: see
+// `turned`.
 pub fn shown(p: Panel) -> Panel
     requires { p.count ≤ 9 }
     ensures { result ≡ shown p }

@@ -3,7 +3,8 @@ ghost use Rattle.std.specs.Prelude.{◌≡◌, ◌≤◌, length};
 
 use crate::Panel;
 
-// Lamella i, from the first face, has its direction and its thickness at place i of two slices of the same length.
+// Lamella i, from the first face, has its direction and its thickness at place i of two slices of the same length. They are kept as they are,
+// two: a panel holds two arrays, which are lent and not copied.
 #[derive(Clone, Copy)]
 pub struct Lamellae<'a> {
     pub directions: &'a [u8],
@@ -15,7 +16,8 @@ impl<'a> Lamellae<'a> {
     ghost use Rattle.std.specs.Prelude.{drop};
     ghost use Rattle.panel.specs.Lent.{lamellae_in};
 
-    // Those from a place on.
+    // Those from a place on. It and `Panel::lamellae` are kept as they are: each cuts both slices in one struct literal, one in front and the
+    // other at the end.
     pub fn starting_at(self, place: usize) -> Lamellae<'a>
         requires { place ≤ length self.directions.now }
         ensures { lamellae_in result ≡ drop place (lamellae_in self.entry) }
@@ -31,7 +33,7 @@ impl Panel {
     ghost use Rattle.panel.specs.Lamellae.{lamellae};
     ghost use Rattle.panel.specs.Lent.{lamellae_in};
 
-    // No open call: the count must be at most 9.
+    // Those of a panel. No open call: the count must be at most 9. Kept as it is: see `starting_at`.
     pub fn lamellae(&self) -> Lamellae<'_>
         requires { self.now.count ≤ 9 }
         ensures { lamellae_in result ≡ lamellae self.now }

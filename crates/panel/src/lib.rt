@@ -20,7 +20,8 @@ pub enum Material {
     ParticleBoard,
 }
 
-// One board. The type is its ASCII letter, the thickness in tenths of mm, the joint coefficient in hundredths.
+// One board. The type is its ASCII letter, the thickness in tenths of mm, the joint coefficient in hundredths. The letter is kept as it is,
+// raw, as what `Panel` has is.
 #[derive(Clone, Copy, PartialEq, Eq)]
 pub struct Board {
     pub kind: u8,
@@ -39,8 +40,8 @@ pub enum Cladding {
 // The version is that of its record. The face is 0 for a fire on the first face, 1 on the last, 2 on each alone. The rate is in
 // hundredths of mm/min, the strength in tenths of N/mm², the moment in N·m per metre of width, the failure time in thousandths of a
 // minute. Lamella i, from the first face, has its direction (0 across, 1 along) and its thickness (tenths of mm) at place i of the
-// arrays. Places from `count` on are unused. The numbers are raw, since calls refuse those out of their limits, and the arrays are held by
-// value with their count, since there is no heap.
+// arrays. Places from `count` on are unused. The numbers are kept as they are, raw, since calls refuse those out of their limits, and so are
+// the arrays, by value with their count, since there is no heap.
 #[derive(Clone, Copy)]
 pub struct Panel {
     pub version: u8,

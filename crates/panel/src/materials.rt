@@ -1,32 +1,28 @@
 // The thicknesses that a layer may have, in tenths of mm, by what it is made of.
-ghost use Rattle.std.specs.Prelude.{◌≡◌};
+ghost use Rattle.std.specs.Prelude.{◌≡◌, false};
+ghost use Rattle.std.specs.Range.{range_inclusive_start, range_inclusive_end, range_inclusive_exhausted};
 ghost use Rattle.panel.specs.Materials.{thinnest, thickest, bad_thickness};
 
 use crate::Material;
+use std::ops::RangeInclusive;
 
-pub fn thinnest(m: Material) -> u16
-    ensures { result ≡ thinnest m }
+// From the thinnest to the thickest.
+pub fn thicknesses(m: Material) -> RangeInclusive<u16>
+    ensures thinnest { range_inclusive_start result ≡ thinnest m }
+    ensures thickest { range_inclusive_end result ≡ thickest m }
+    ensures whole { range_inclusive_exhausted result ≡ false }
 {
     match m {
-        Material::Gypsum => 90,
-        Material::Wood => 100,
-        Material::Osb | Material::ParticleBoard => 200,
+        Material::Gypsum => 90..=250,
+        Material::Wood => 100..=600,
+        Material::Osb | Material::ParticleBoard => 200..=400,
     }
 }
 
-pub fn thickest(m: Material) -> u16
-    ensures { result ≡ thickest m }
-{
-    match m {
-        Material::Gypsum => 250,
-        Material::Wood => 600,
-        Material::Osb | Material::ParticleBoard => 400,
-    }
-}
-
-// Whether no layer of the material has this thickness.
+// Whether no layer of the material has this thickness. The two numbers are kept as they are, apart: a layer's material is known by what it
+// is, a board or a lamella, and its thickness stands there.
 pub fn bad_thickness(m: Material, h: u16) -> bool
     ensures { result ≡ bad_thickness m h }
 {
-    !(thinnest(m)..=thickest(m)).contains(&h)
+    !thicknesses(m).contains(&h)
 }

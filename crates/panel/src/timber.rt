@@ -4,7 +4,7 @@ ghost use Rattle.panel.specs.Timber.{factor_of, rate_of};
 
 use crate::Panel;
 
-// k_fi in twentieths, by the bond.
+// k_fi in twentieths, by the bond, whose number is kept as it is: a panel is plain data, whose raw numbers calls refuse.
 pub fn factor_of(bond: u8) -> u64
     ensures { (result ≡ factor_of bond) × (result ≤ 23) }
 {

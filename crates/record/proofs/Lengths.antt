@@ -1,45 +1,24 @@
 -- How many bytes the parts of a record take, and one lamella's bytes more.
 use Prim.Native.Nat.{ℕ, ◌+◌, ◌*◌, ◌≤◌}
-use mathlib.Core.Path.{◌≡◌, refl, ap, ap₂, ◌∙◌}
+use mathlib.Core.Path.{◌≡◌, refl, ap, ◌∙◌}
 use mathlib.Core.Bool.{Bool, true, false}
 use mathlib.Core.List.{List, [], ◌∷◌, ◌++◌, append_assoc}
 use borrow.Author.Tests.{eq-eqb, ne_eqb}
 use native.Mathlib.Omega.{arith}
 use native.Mathlib.Nat.{zero-add}
 use lib.Dec.{eqb}
-use lib.ListN.{length, get_or, take, drop, length-append, length-take}
-use lib.Seq.{get_or-take, sets, sets-eq}
+use lib.ListN.{length, drop, length-append}
+use lib.Seq.{sets, sets-eq}
 use Rattle.numbers.specs.Bytes.{bytes, join, span}
 use Rattle.numbers.proofs.Digits.{Filled, length_join}
-use Rattle.numbers.proofs.FirstValues.{length_firsts, firsts_agree}
+use Rattle.numbers.proofs.FirstValues.{length_firsts}
 use Rattle.numbers.proofs.Lists.{then_put}
 use Rattle.panel.specs.declared.Board.{Board}
 use Rattle.panel.specs.declared.Panel.{Panel}
-use Rattle.panel.specs.Lamellae.{Lamella, lamella, lamellae, lamellae_of}
+use Rattle.panel.specs.Lamellae.{Lamella, lamellae}
 use Rattle.panel.proofs.Used.{length_lamellae_of}
 use Rattle.panel.specs.Boards.{boards_of}
-use Rattle.record.specs.Layouts.{
-  only_if,
-  front_widths,
-  head_widths,
-  count_widths,
-  lamella_widths,
-  front_length,
-  head_length,
-  board_length,
-  lamella_length,
-  count_place,
-  record_length,
-  front_numbers,
-  head_numbers,
-  lamella_numbers,
-  lamella_at,
-  lamellae_in,
-  board_bytes,
-  lamella_bytes,
-  tail_bytes,
-  encode,
-}
+use Rattle.record.specs.Layouts.{only_if, front_widths, head_widths, lamella_widths, front_length, head_length, board_length, lamella_length, count_place, record_length, front_numbers, head_numbers, lamella_numbers, lamella_at, lamellae_in, board_bytes, lamella_bytes, tail_bytes, encode}
 
 -- the front is 3 or 4 bytes long
 pub front_within : (version : ℕ) → (3 ≤ front_length version) × (front_length version ≤ 4)
@@ -133,19 +112,3 @@ parts_stored p l l₁ l₂ l₃ l₄ until at f e e₁ e₂ e₃ e₄ =
     (then_put l l₂ l₃ 0 (front ++ head) (until + head_length) bs (then_put l l₁ l₂ 0 front until head e₁ after_front e₂) after-head e₃)
     after-boards e₄
     ∙ ap (sets l 0) (append_assoc (front ++ head) bs (tail_bytes p) ∙ append_assoc front head (bs ++ tail_bytes p))
-
--- the tail of the used places is the panel's tail
-pub tail_of_used :
-    (p : Panel) (n : ℕ) → n ≡ p.count → p.count ≤ length p.directions → p.count ≤ length p.thicknesses
-    → (let gs : List ℕ = take n p.directions in
-    let ts : List ℕ = take n p.thicknesses in
-    join count_widths (length gs ∷ []) ++ lamella_bytes (lamellae_of gs ts (length gs)) ≡ tail_bytes p)
-unfolding lamellae_of
-tail_of_used p n e hg ht =
-    let gs : List ℕ = take n p.directions in
-    let ts : List ℕ = take n p.thicknesses in
-    let whole : length gs ≡ p.count = simp length-take (omega arith) in
-    rw whole
-    (ap (λ (ls : List Lamella). join count_widths (p.count ∷ []) ++ lamella_bytes ls)
-    (firsts_agree (λ (i : ℕ). lamella (get_or gs i 0) (get_or ts i 0)) (λ (i : ℕ). lamella (get_or p.directions i 0) (get_or p.thicknesses i 0)) p.count
-    (λ i h. ap₂ lamella (get_or-take n p.directions i 0 (omega arith)) (get_or-take n p.thicknesses i 0 (omega arith)))))

@@ -23,7 +23,7 @@ pub fn write(p: Panel, out: &mut [u8]) -> Result<usize, Refusal>
     ensures value { by_number result ≡ write_answer p out.old }
     ensures out_after { out.new ≡ space_after p out.old }
 {
-    let accepted = Accepted::of(p)?.panel();
+    let accepted = Accepted::of(p)?;
     let length = record_length(accepted);
     refuse_if(out.len() < length, Refusal::Space)?;
     put_record(out, accepted);

@@ -3,7 +3,7 @@ ghost use Rattle.std.specs.Prelude.{◌≡◌};
 ghost use Rattle.record.specs.Refusals.{bad_length, bad_board_count, bad_whole, byte_faults};
 
 use crate::layout;
-use crate::reader::{board_count, lamella_count, version_of};
+use crate::reader::{lamella_count, layout_in};
 use limits::ByteFaults;
 use numbers::bytes::bytes_at;
 
@@ -11,23 +11,21 @@ fn bad_length(s: &[u8]) -> bool
     ensures { result ≡ bad_length s.now }
 {
     let n = s.len();
-    ((n < layout::SHORTEST) | (layout::LONGEST < n))
-        | !(usize::from(u16::from_be_bytes(bytes_at(s, layout::LENGTH))) == n)
+    !(layout::SHORTEST..=layout::LONGEST).contains(&n)
+        | (usize::from(u16::from_be_bytes(bytes_at(s, layout::LENGTH))) != n)
 }
 
 fn bad_board_count(s: &[u8]) -> bool
     ensures { result ≡ bad_board_count s.now }
 {
-    let c = board_count(s);
-    (2 < c) | (s.len() < layout::length_with(version_of(s), c, 1))
+    let layout = layout_in(s);
+    (2 < layout.boards) | (s.len() < layout.length_with(1))
 }
 
 fn bad_whole(s: &[u8]) -> bool
     ensures { result ≡ bad_whole s.now }
 {
-    let c = board_count(s);
-    let n = lamella_count(s);
-    !(s.len() == layout::length_with(version_of(s), c, n))
+    s.len() != layout_in(s).length_with(usize::from(lamella_count(s)))
 }
 
 // What the bytes say beside the panel that stands in them.

@@ -54,33 +54,40 @@ pub(crate) const SHORTEST: usize = FRONT_1 + REST + LAMELLA;
 
 pub(crate) const LONGEST: usize = FRONT_2 + REST + 2 * BOARD + 9 * LAMELLA;
 
-// The length of the front.
+// The length of the front. The version's number is kept as it is: a panel is plain data, whose raw numbers calls refuse.
 pub(crate) fn front(version: u8) -> usize
     ensures { (result ≡ front_length version) × (result ≤ 4) }
 {
     if version == 2 { FRONT_2 } else { FRONT_1 }
 }
 
-// Where the number of lamellae stands after c boards.
-pub(crate) fn count_place(version: u8, c: usize) -> usize
-    requires { c < 256 }
-    ensures { result ≡ count_place version c }
-{
-    front(version) + HEAD + BOARD * c
+// What places and lengths depend on: the version, whose number is kept as it is, and c, the number of boards.
+#[derive(Clone, Copy)]
+pub(crate) struct Layout {
+    pub version: u8,
+    pub boards: u8,
 }
 
-// Where the lamellae begin after c boards.
-pub(crate) fn lamella_place(version: u8, c: usize) -> usize
-    requires { c < 256 }
-    ensures { (result ≡ lamella_place version c) × (result < 2048) }
-{
-    front(version) + REST + BOARD * c
-}
+impl Layout {
+    // Where the number of lamellae stands.
+    pub(crate) fn count_place(self) -> usize
+        ensures { (result ≡ count_place self.version self.boards) × (result < 2047) }
+    {
+        front(self.version) + HEAD + BOARD * usize::from(self.boards)
+    }
 
-// The length of a record with c boards and n lamellae.
-pub(crate) fn length_with(version: u8, c: usize, n: usize) -> usize
-    requires { (c < 256) × (n < 256) }
-    ensures { result ≡ length_with version c n }
-{
-    lamella_place(version, c) + LAMELLA * n
+    // Where the lamellae begin.
+    pub(crate) fn lamella_place(self) -> usize
+        ensures { (result ≡ lamella_place self.version self.boards) × (result < 2048) }
+    {
+        self.count_place() + COUNT
+    }
+
+    // The length of a record with n lamellae.
+    pub(crate) fn length_with(self, n: usize) -> usize
+        requires { n < 256 }
+        ensures { result ≡ length_with self.version self.boards n }
+    {
+        self.lamella_place() + LAMELLA * n
+    }
 }

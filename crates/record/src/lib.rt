@@ -7,8 +7,8 @@ mod layout;
 mod reader;
 mod writer;
 
-// The arrays of a panel's lamellae, as one loop fills them. A tuple would lose the names that contracts use; `array::from_fn` takes a
-// function for each array, and the two would differ in the field alone.
+// The arrays of a panel's lamellae, as one loop fills them. They are kept as they are: a panel holds its arrays by value, since there is no
+// heap; a tuple would lose the names that contracts use, and two `array::from_fn` would differ in the field alone.
 #[derive(Clone, Copy)]
 pub struct Lamellae {
     pub directions: [u8; 9],

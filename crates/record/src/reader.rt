@@ -3,17 +3,18 @@
 ghost use Rattle.std.specs.Prelude.{◌≡◌, ◌≤◌, ◌<◌, get_or};
 ghost use Rattle.record.specs.Layouts.{version_of, front_of, body, count_of_boards, count_of_lamellae, board_at, cladding_at, lamellae_in, arrays_of, record_lamellae, panel_of};
 
+use crate::layout::Layout;
 use crate::{Lamellae, layout};
 use numbers::bytes::{byte_at, bytes_at, part_from};
 use panel::{Board, Cladding, Panel};
 
-pub(crate) fn version_of(s: &[u8]) -> u8
+fn version_of(s: &[u8]) -> u8
     ensures { result ≡ version_of s.now }
 {
     byte_at(s, layout::VERSION)
 }
 
-// The face, which only version 2 has.
+// The face, which only version 2 has. The version's number is kept as it is: a panel is plain data.
 fn face_of(s: &[u8]) -> u8
     ensures { result ≡ get_or (front_of s.now) 2 0 }
 {
@@ -31,18 +32,26 @@ fn body_of(s: &[u8]) -> &[u8]
 }
 
 // c, the number of boards.
-pub(crate) fn board_count(s: &[u8]) -> usize
-    ensures { (result ≡ count_of_boards s.now) × (result < 256) }
+fn board_count(s: &[u8]) -> u8
+    ensures { result ≡ count_of_boards s.now }
 {
-    usize::from(byte_at(body_of(s), layout::BOARDS))
+    byte_at(body_of(s), layout::BOARDS)
+}
+
+pub(crate) fn layout_in(s: &[u8]) -> Layout
+    ensures { (result.version ≡ version_of s.now) × (result.boards ≡ count_of_boards s.now) }
+{
+    Layout {
+        version: version_of(s),
+        boards: board_count(s),
+    }
 }
 
 // n, the number of lamellae.
-pub(crate) fn lamella_count(s: &[u8]) -> usize
-    ensures { (result ≡ count_of_lamellae s.now) × (result < 256) }
+pub(crate) fn lamella_count(s: &[u8]) -> u8
+    ensures { result ≡ count_of_lamellae s.now }
 {
-    let at = layout::count_place(version_of(s), board_count(s));
-    usize::from(byte_at(s, at))
+    byte_at(s, layout_in(s).count_place())
 }
 
 // Board i after the head.
@@ -58,7 +67,7 @@ fn board_at(t: &[u8], i: usize) -> Board
     }
 }
 
-fn cladding_at(c: usize, t: &[u8]) -> Cladding
+fn cladding_at(c: u8, t: &[u8]) -> Cladding
     ensures { result ≡ cladding_at c t.now }
 {
     match c {
@@ -68,7 +77,7 @@ fn cladding_at(c: usize, t: &[u8]) -> Cladding
     }
 }
 
-// The first n lamellae of the lamella bytes.
+// The first n lamellae of the lamella bytes, in arrays that are kept as they are: see `Lamellae`.
 #[tactic(auto, unfolding(crate::specs::Layouts::lamellae_in))]
 fn lamellae_in(u: &[u8], n: usize) -> Lamellae
     requires { n ≤ 9 }
@@ -91,10 +100,11 @@ fn lamellae_in(u: &[u8], n: usize) -> Lamellae
 fn lamellae_of(s: &[u8]) -> Lamellae
     ensures { result ≡ arrays_of (record_lamellae s.now) }
 {
-    let from = layout::lamella_place(version_of(s), board_count(s));
-    lamellae_in(part_from(s, from), lamella_count(s).min(9))
+    let from = layout_in(s).lamella_place();
+    lamellae_in(part_from(s, from), usize::from(lamella_count(s)).min(9))
 }
 
+// The panel that stands in the bytes; its arrays are kept as they are.
 pub(crate) fn panel_of(s: &[u8]) -> Panel
     ensures { result ≡ panel_of s.now }
 {
@@ -113,7 +123,7 @@ pub(crate) fn panel_of(s: &[u8]) -> Panel
         moment: u32::from_be_bytes(bytes_at(t, layout::MOMENT)),
         failure_time: u32::from_be_bytes(bytes_at(t, layout::FAILURE_TIME)),
         cladding: cladding_at(board_count(s), t),
-        count: lamella_count(s),
+        count: usize::from(lamella_count(s)),
         directions,
         thicknesses,
     }

@@ -2,15 +2,19 @@
 ghost use Rattle.std.specs.Prelude.{◌≡◌, [], ◌∷◌, ◌++◌, ◌+◌, ◌*◌, ◌≤◌, ◌<◌, length};
 ghost use Rattle.std.proofs.lemmas.List.Edits.{sets};
 ghost use Rattle.numbers.specs.Bytes.{join};
-ghost use Rattle.panel.specs.Lamellae.{lamella, lamellae_of};
+ghost use Rattle.panel.specs.Lamellae.{lamella};
+ghost use Rattle.panel.specs.Lent.{lamellae_in};
 ghost use Rattle.panel.specs.Boards.{boards_of};
-ghost use Rattle.record.specs.Layouts.{front_widths, head_widths, board_widths, lamella_widths, count_widths, front_length, head_length, board_length, count_length, lamella_length, longest, record_length, front_numbers, head_numbers, board_numbers, lamella_numbers, board_bytes, lamella_bytes, tail_bytes, encode};
+ghost use Rattle.record.specs.Layouts.{front_widths, head_widths, board_widths, lamella_widths, front_length, board_length, count_length, lamella_length, longest, record_length, front_numbers, head_numbers, board_numbers, lamella_numbers, board_bytes, lamella_bytes, tail_bytes, encode};
 
 use crate::layout;
+use crate::layout::Layout;
+use limits::check::Accepted;
 use numbers::bytes::put;
+use panel::lamellae::Lamellae;
 use panel::{Board, Cladding, Panel};
 
-fn boards_of(c: Cladding) -> usize
+fn boards_of(c: Cladding) -> u8
     ensures { (result ≡ length (boards_of c)) × (result ≤ 2) }
 {
     match c {
@@ -20,23 +24,25 @@ fn boards_of(c: Cladding) -> usize
     }
 }
 
-fn put_board(out: &mut [u8], b: Board)
-    requires { board_length ≤ length out.old }
-    ensures { out.new ≡ sets out.old 0 (join board_widths (board_numbers b)) }
+fn layout_of(p: Panel) -> Layout
+    ensures { (result.version ≡ p.version) × (result.boards ≡ length (boards_of p.cladding)) × (result.boards ≤ 2) }
 {
-    put(out, 0, [b.kind]);
-    put(out, layout::BOARD_THICKNESS, b.thickness.to_be_bytes());
-    put(out, layout::JOINT, [b.joint]);
+    Layout {
+        version: p.version,
+        boards: boards_of(p.cladding),
+    }
 }
 
-fn put_two(out: &mut [u8], outer: Board, inner: Board)
-    requires { board_length * 2 ≤ length out.old }
-    ensures { out.new ≡ sets out.old 0 (board_bytes (outer ∷ inner ∷ [])) }
+// The bytes of a board.
+fn board(b: Board) -> [u8; layout::BOARD]
+    ensures { result ≡ join board_widths (board_numbers b) }
 {
-    put_board(out, outer);
-    put_board(&mut out[layout::BOARD..], inner);
+    let [high, low] = b.thickness.to_be_bytes();
+    [b.kind, high, low, b.joint]
 }
 
+// The room asked for is kept as it is, here and in the functions below: it differs from part to part, and a lent array of that length would
+// come out of `first_chunk_mut`, an `Option` whose `None` never is.
 #[tactic(auto, unfolding(crate::specs::Layouts::board_bytes))]
 fn put_cladding(out: &mut [u8], c: Cladding)
     requires { board_length * length (boards_of c) ≤ length out.old }
@@ -44,88 +50,98 @@ fn put_cladding(out: &mut [u8], c: Cladding)
 {
     match c {
         Cladding::Unclad => {}
-        Cladding::One(b) => put_board(out, b),
-        Cladding::Two(outer, inner) => put_two(out, outer, inner),
+        Cladding::One(b) => put(out, 0, board(b)),
+        Cladding::Two(outer, inner) => {
+            put(out, 0, board(outer));
+            put(out, layout::BOARD, board(inner));
+        }
     }
 }
 
-fn put_lamella(out: &mut [u8], direction: u8, thickness: u16)
-    requires { lamella_length ≤ length out.old }
-    ensures { out.new ≡ sets out.old 0 (join lamella_widths (lamella_numbers (lamella direction thickness))) }
+// The bytes of a lamella. The direction's number is kept as it is: a panel is plain data.
+fn lamella(direction: u8, thickness: u16) -> [u8; layout::LAMELLA]
+    ensures { result ≡ join lamella_widths (lamella_numbers (lamella direction thickness)) }
 {
-    put(out, 0, [direction]);
-    put(out, layout::THICKNESS, thickness.to_be_bytes());
+    let [high, low] = thickness.to_be_bytes();
+    [direction, high, low]
 }
 
+// The room is kept as it is: see `put_cladding`.
 #[tactic(auto, unfolding(crate::specs::Layouts::lamella_bytes, panel::specs::Lamellae::lamellae_of))]
-fn put_lamellae(out: &mut [u8], directions: &[u8], thicknesses: &[u16])
-    requires pairs { length thicknesses.now ≡ length directions.now }
-    requires room { lamella_length * length directions.now ≤ length out.old }
-    ensures { out.new ≡ sets out.old 0 (lamella_bytes (lamellae_of directions.now thicknesses.now (length directions.now))) }
+fn put_lamellae(out: &mut [u8], lamellae: Lamellae<'_>)
+    requires { lamella_length * length lamellae.directions.now ≤ length out.old }
+    ensures { out.new ≡ sets out.old 0 (lamella_bytes (lamellae_in lamellae.entry)) }
 {
-    for (i, direction) in directions.iter().enumerate() {
-        put_lamella(&mut out[layout::LAMELLA * i..], *direction, thicknesses[i]);
+    for (i, (direction, thickness)) in lamellae
+        .directions
+        .iter()
+        .zip(lamellae.thicknesses)
+        .enumerate()
+    {
+        put(out, layout::LAMELLA * i, lamella(*direction, *thickness));
     }
 }
 
-fn put_head(out: &mut [u8], p: Panel)
-    requires { head_length ≤ length out.old }
-    ensures { out.new ≡ sets out.old 0 (join head_widths (head_numbers p)) }
+// The bytes of the head.
+fn head(p: Panel) -> [u8; layout::HEAD]
+    ensures { result ≡ join head_widths (head_numbers p) }
 {
-    put(out, layout::BOND, [p.bond]);
-    put(out, layout::RATE, [p.rate]);
-    put(out, layout::GAP, [p.gap]);
-    put(out, layout::STRENGTH, p.strength.to_be_bytes());
-    put(out, layout::MOMENT, p.moment.to_be_bytes());
-    put(out, layout::BOARDS, [boards_of(p.cladding) as u8]);
-    put(out, layout::FAILURE_TIME, p.failure_time.to_be_bytes());
+    let [f1, f0] = p.strength.to_be_bytes();
+    let [m3, m2, m1, m0] = p.moment.to_be_bytes();
+    let [t3, t2, t1, t0] = p.failure_time.to_be_bytes();
+    let c = boards_of(p.cladding);
+    [
+        p.bond, p.rate, p.gap, f1, f0, m3, m2, m1, m0, c, t3, t2, t1, t0,
+    ]
 }
 
-// The number n of lamellae, then each lamella.
-fn put_tail(out: &mut [u8], directions: &[u8], thicknesses: &[u16])
-    requires pairs { length thicknesses.now ≡ length directions.now }
-    requires counted { length directions.now < 256 }
-    requires room { count_length + lamella_length * length directions.now ≤ length out.old }
-    ensures { out.new ≡ sets out.old 0 (join count_widths (length directions.now ∷ []) ++ lamella_bytes (lamellae_of directions.now thicknesses.now (length directions.now))) }
+// The number n of lamellae, then each lamella. The room is kept as it is, and so is the cast: n is at most nine, and the error of a
+// `try_from` would never be.
+fn put_tail(out: &mut [u8], accepted: Accepted)
+    requires { count_length + lamella_length * accepted.count ≤ length out.old }
+    ensures { out.new ≡ sets out.old 0 (tail_bytes accepted) }
 {
-    put(out, 0, [directions.len() as u8]);
-    put_lamellae(&mut out[layout::COUNT..], directions, thicknesses);
+    let p = accepted.panel();
+    put(out, 0, [p.count as u8]);
+    put_lamellae(&mut out[layout::COUNT..], p.lamellae());
 }
 
-// The length of a panel's record. No open call: the count must be at most 9.
-pub(crate) fn record_length(p: Panel) -> usize
-    requires { p.count ≤ 9 }
-    ensures { (result ≡ record_length p) × (result ≤ longest) }
+// The length of a panel's record.
+pub(crate) fn record_length(accepted: Accepted) -> usize
+    ensures { (result ≡ record_length accepted) × (result ≤ longest) }
 {
-    layout::length_with(p.version, boards_of(p.cladding), p.count)
+    let p = accepted.panel();
+    layout_of(p).length_with(p.count)
 }
 
-// The length, the version, and in version 2 the face.
-fn put_front(out: &mut [u8], total: u16, p: Panel)
-    requires room { front_length p.version ≤ length out.old }
-    requires whole { total ≡ record_length p }
-    ensures { out.new ≡ sets out.old 0 (join (front_widths p.version) (front_numbers p)) }
+// The length, the version, and in version 2 the face. The room, the version's number and the cast of the length are kept as they are: see
+// `put_tail`.
+fn put_front(out: &mut [u8], accepted: Accepted)
+    requires { front_length accepted.version ≤ length out.old }
+    ensures { out.new ≡ sets out.old 0 (join (front_widths accepted.version) (front_numbers accepted)) }
 {
-    put(out, layout::LENGTH, total.to_be_bytes());
+    let p = accepted.panel();
+    put(
+        out,
+        layout::LENGTH,
+        (record_length(accepted) as u16).to_be_bytes(),
+    );
     put(out, layout::VERSION, [p.version]);
     if p.version == 2 {
         put(out, layout::FACE, [p.face]);
     }
 }
 
-// Stores a panel's record at the start of the space. No open call: the count must be at most 9, and the record must fit.
-pub(crate) fn put_record(out: &mut [u8], p: Panel)
-    requires { (p.count ≤ 9) × (record_length p ≤ length out.old) }
-    ensures { out.new ≡ sets out.old 0 (encode p) }
+// Stores a panel's record at the start of the space. No open call: the record must fit. The room is kept as it is: see `put_cladding`.
+pub(crate) fn put_record(out: &mut [u8], accepted: Accepted)
+    requires { record_length accepted ≤ length out.old }
+    ensures { out.new ≡ sets out.old 0 (encode accepted) }
 {
+    let p = accepted.panel();
     let front = layout::front(p.version);
-    let tail = layout::count_place(p.version, boards_of(p.cladding));
-    put_front(out, record_length(p) as u16, p);
-    put_head(&mut out[front..], p);
+    let tail = layout_of(p).count_place();
+    put_front(out, accepted);
+    put(out, front, head(p));
     put_cladding(&mut out[front + layout::HEAD..], p.cladding);
-    put_tail(
-        &mut out[tail..],
-        &p.directions[..p.count],
-        &p.thicknesses[..p.count],
-    );
+    put_tail(&mut out[tail..], accepted);
 }

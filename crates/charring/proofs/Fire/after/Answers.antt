@@ -19,7 +19,8 @@ loop-line-preserved c =
 
 pub returns : goal.returns
 returns c = (
-  walk_end c.args.at.q c.loop-line.place c.cross.result c.args.self.now.back c.args.self.now.back _ c.in-None.ensures.steps.0 c.cross.ensures
+  walk_end c.args.at.q c.loop-line.place c.cross.result c.args.self.now.back c.args.self.now.back _ c.in-None.ensures.steps.0
+      (rw (c.back_line.ensures.0, c.back_line.ensures.1) at c.cross.ensures)
       ∙ c.loop-line.invariant,
   omega arith,
 )

@@ -30,5 +30,6 @@ loop-line-preserved c =
 pub returns : goal.returns
 returns c =
     c.phase_in-2.ensures
-    ∙ onward_last c.args.at.q c.loop-line.place c.args.self.now.back c.fast_part.result _ c.in-None.ensures.steps.0 c.fast_part.ensures.0
+    ∙ onward_last c.args.at.q c.loop-line.place c.args.self.now.back c.fast_part.result _ c.in-None.ensures.steps.0
+    (rw c.back_line.ensures.0 at c.fast_part.ensures.0)
     ∙ c.loop-line.invariant

@@ -1,27 +1,16 @@
--- `charring::calls::effective_depth` meets its contract: the depth of a panel and a minute that no line refuses. Assumes nothing.
-use Rattle.std.proofs.Common.{Ok, ◌∙◌}
-use Rattle.std.proofs.lemmas.Result.{err_from_is_err_and}
-use Rattle.limits.proofs.FirstLine.{passed_on, worked_out}
-use Rattle.charring.proofs.Replies.{minute_taken}
-use Rattle.charring.specs.Answers.{minute_refusal, asked_answer, effective_answer}
-use Rattle.limits.proofs.FirstLine.{accepted_with}
+-- `charring::calls::effective_depth` meets its contract: what the fire that is shown gives is that of its panel. Assumes nothing.
+use Rattle.charring.specs.Answers.{effective_answer}
+use Rattle.charring.specs.Depths.{tenths_at}
 use Rattle.panel.specs.Faces.{shown}
 use Rattle.panel.specs.declared.Panel.{Panel}
-use native.Mathlib.Omega.{arith}
-use Rattle.charring.specs.Depths.{tenths_at}
+use borrow.Author.Rules.{rules}
+use mathlib.Core.Path.{◌≡◌, ap, ◌∙◌}
 use Rattle.charring.proofs.calls.effective_depth.Goals as goal
 
-pub returns-in_err-accepted : goal.returns-in_err-accepted
-unfolding effective_answer asked_answer
-returns-in_err-accepted c =
-    let p = err_from_is_err_and c.from_residual.result c.from_residual.ensures.1 in
-    rw (p.1, p.2) (passed_on (minute_refusal c.args.p c.args.minute) c.args.p (Ok ((λ (q : Panel). tenths_at (shown q) c.args.minute 1) c.args.p)) c.in_err-accepted.ensures)
-
 pub returns : goal.returns
-unfolding effective_answer asked_answer
-returns c = worked_out (minute_refusal c.args.p c.args.minute) (λ (q : Panel). tenths_at (shown q) c.args.minute 1) c.args.p c.in_ok-accepted.ensures (
-    c.tenths.ensures ∙ rw (c.shown_fire.ensures, c.minute.ensures.0, c.minute.ensures.1, c.from.ensures))
-
-pub minute-requires : goal.minute-requires
-unfolding asked_answer
-minute-requires c = omega (arith, c.from.ensures, (minute_taken c.args.p c.args.minute (accepted_with c.in_ok-accepted.ensures).0).1)
+unfolding effective_answer
+returns c =
+    c.at_minute.ensures (tenths_at (shown c.args.p) c.args.minute 1)
+    (λ fire r same post.
+    let given : r ≡ tenths_at fire.panel c.args.minute 1 = search rules in
+    given ∙ ap (λ (q : Panel). tenths_at q c.args.minute 1) same)

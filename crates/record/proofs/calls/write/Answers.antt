@@ -1,7 +1,6 @@
 -- `record::calls::write` meets its contract: the record is stored where no line and no want of space refuses it. Assumes nothing.
 use Rattle.std.proofs.Common.{◌≡◌, ◌≤◌, length, sym, ap, ◌∙◌}
 use Rattle.std.proofs.lemmas.Result.{err_from_is_err_and}
-use Rattle.limits.proofs.Accepted.{accepted_fits}
 use Rattle.limits.proofs.FirstLine.{turned_above, accepted_with, refused_with, call_line, not_fitting}
 use Rattle.limits.specs.Answers.{accepted_answer}
 use Rattle.limits.specs.Refusals.{panel_lines, panel_refusal}
@@ -15,26 +14,22 @@ use lib.Dec.{ltb}
 use lib.Seq.{sets}
 use Rattle.record.proofs.calls.write.Goals as goal
 
-pub returns-in_err-of : goal.returns-in_err-of
+pub returns-in_err-accepted : goal.returns-in_err-accepted
 unfolding write_refusal accepted_answer panel_refusal
-returns-in_err-of c =
+returns-in_err-accepted c =
     let a = c.args in
     let p = err_from_is_err_and c.from_residual.result c.from_residual.ensures.1 in
-    let h = refused_with a.p c.in_err-of.ensures in
+    let h = refused_with a.p c.in_err-accepted.ensures in
     let both = answers_refused a.p a.out.now _ (turned_above (panel_lines a.p) (short a.p a.out.now) h.0 (λ z. h.1 (sym h.0 ∙ z))) (λ z. h.1 (sym h.0 ∙ z)) in
     record { value = rw (p.1, p.2) both.0; out_after = both.1 }
-
-pub record_length-length-requires : goal.record_length-length-requires
-record_length-length-requires c = (accepted_fits c.panel-accepted.result c.panel-accepted.ensures.accepted).count
 
 pub returns-in_err-refuse_if : goal.returns-in_err-refuse_if
 unfolding write_refusal accepted_answer panel_refusal
 returns-in_err-refuse_if c =
     let a = c.args in
     let p = err_from_is_err_and c.from_residual-in_err-refuse_if.result c.from_residual-in_err-refuse_if.ensures.1 in
-    let taken = accepted_with c.in_ok-of.ensures in
-    let whole : c.record_length-length.result ≡ record_length a.p =
-    c.record_length-length.ensures.0 ∙ ap record_length (c.panel-accepted.ensures.panel ∙ taken.1) in
+    let taken = accepted_with c.in_ok-accepted.ensures in
+    let whole : c.record_length-length.result ≡ record_length a.p = c.record_length-length.ensures.0 ∙ ap record_length taken.1 in
     let h = refused_with tt (call_line (panel_lines a.p) tt taken.0 (short_for a.p a.out.now) Space (rw whole at c.in_err-refuse_if.ensures)) in
     let both = answers_refused a.p a.out.now _ h.0 (λ z. h.1 (sym h.0 ∙ z)) in
     record { value = rw (p.1, p.2) both.0; out_after = both.1 }
@@ -42,10 +37,8 @@ returns-in_err-refuse_if c =
 pub put_record-requires : goal.put_record-requires
 put_record-requires c =
     let out = c.args.out.now in
-    let len = c.record_length-length in (
-      (accepted_fits c.panel-accepted.result c.panel-accepted.ensures.accepted).count,
-      rw len.ensures.0 at (ltb-false (length out) len.result (not_fitting (ltb (length out) len.result) Space c.in_ok-refuse_if.ensures)),
-    )
+    let len = c.record_length-length in
+    rw len.ensures.0 at (ltb-false (length out) len.result (not_fitting (ltb (length out) len.result) Space c.in_ok-refuse_if.ensures))
 
 pub returns : goal.returns
 unfolding accepted_answer
@@ -53,11 +46,10 @@ returns c =
     let a = c.args in
     let out = a.out.now in
     let len = c.record_length-length in
-    let taken = accepted_with c.in_ok-of.ensures in
-    let same : c.panel-accepted.result ≡ a.p = c.panel-accepted.ensures.panel ∙ taken.1 in
-    let whole : len.result ≡ record_length a.p = len.ensures.0 ∙ ap record_length same in
+    let taken = accepted_with c.in_ok-accepted.ensures in
+    let whole : len.result ≡ record_length a.p = len.ensures.0 ∙ ap record_length taken.1 in
     let room : record_length a.p ≤ length out =
     rw whole at (ltb-false (length out) len.result (not_fitting (ltb (length out) len.result) Space c.in_ok-refuse_if.ensures)) in
     let both = answers_written a.p out c.put_record.new.out len.result whole taken.0 room
-    (c.put_record.ensures ∙ ap (λ (q : Panel). sets out 0 (encode q)) same) in
+    (c.put_record.ensures ∙ ap (λ (q : Panel). sets out 0 (encode q)) taken.1) in
     record { value = both.0; out_after = both.1 }

@@ -12,4 +12,4 @@ returns c =
     let strength = word_at w16 t 3 c.bytes_at.ensures c.from_be_bytes.ensures in
     let moment = word_at w32 t 5 c.bytes_at-2.ensures c.from_be_bytes-2.ensures in
     let failure_time = word_at w32 t 10 c.bytes_at-3.ensures c.from_be_bytes-3.ensures in
-    simp (c.version_of.ensures, c.face_of.ensures, c.byte_at.ensures, c.byte_at-2.ensures, c.byte_at-3.ensures, strength, moment, failure_time, c.cladding_at.ensures, c.lamella_count.ensures.0, c.lamellae_of.ensures, c.board_count.ensures.0, c.body_of-t.ensures)
+    simp (c.version_of.ensures, c.face_of.ensures, c.byte_at.ensures, c.byte_at-2.ensures, c.byte_at-3.ensures, strength, moment, failure_time, c.cladding_at.ensures, c.from.ensures, c.lamella_count.ensures, c.lamellae_of.ensures, c.board_count.ensures, c.body_of-t.ensures)
