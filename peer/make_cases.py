@@ -1161,8 +1161,14 @@ def refusals_line(panel, text):
     return f"{' '.join([str(number)] * 11)} {text}\n"
 
 
+def answer_line(panel, answer, text):
+    """What a call answers of the panel, or the refusal, and the text."""
+    refusal = peer.panel_refusal(panel)
+    return f"{programs.refused(refusal) if refusal else answer(panel)} {text}\n"
+
+
 def sum_line(panel, text):
-    return f"{'refused' if peer.panel_refusal(panel) else peer.ei_sum(panel)} {text}\n"
+    return answer_line(panel, peer.ei_sum, text)
 
 
 def space_line(panel, text):
@@ -1171,11 +1177,11 @@ def space_line(panel, text):
 
 
 def section_line(panel, depth, text):
-    return f"{'refused' if peer.panel_refusal(panel) else ' '.join(map(str, peer.section(panel, depth)[:5]))} {text}\n"
+    return answer_line(panel, lambda p: " ".join(map(str, peer.section(p, depth)[:5])), text)
 
 
 def char_line(panel, minute, text):
-    return f"{'refused' if peer.panel_refusal(panel) else peer.micrometres(panel, minute)} {text}\n"
+    return answer_line(panel, lambda p: peer.micrometres(p, minute), text)
 
 
 def version_lines():

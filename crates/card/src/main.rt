@@ -1,4 +1,5 @@
-// Prints the card of the record on standard input, or `REFUSED` and its number. Its stored input is panel G.
+// The program `card`, kept as it is, one for each stored input, as `rt ci` takes them: prints the card of the record on standard input,
+// or `REFUSED` and its number. Its stored input is panel G.
 #![tactic(auto)]
 
 use std::io;

@@ -12,7 +12,8 @@ use limits::refusal::Refusal;
 use planing::Cut;
 use planing::search::least_cut;
 
-// An answer as one number. No open call: the bytes written must be those of a card at most.
+// An answer as one number. No open call: the bytes written must be those of a card at most. The number is kept as it is, and so is its
+// cast: a C function answers one `int32_t`, and by the clause before it the number fits.
 fn number_of(answer: Result<usize, Refusal>) -> i32
     requires { Short (by_number answer) }
     ensures { result ≡ exported (by_number answer) }
@@ -23,7 +24,8 @@ fn number_of(answer: Result<usize, Refusal>) -> i32
     }
 }
 
-// The card of a record: the bytes written, or minus the refusal's number.
+// The card of a record: the bytes written, or minus the refusal's number, which is kept as it is: C has no `Result`. So is a space beside the
+// bytes, as C lends them.
 pub fn yurbantse_card(bytes: &[u8], out: &mut [u8]) -> i32
     ensures value { result ≡ exported (card_answer bytes.now out.old) }
     ensures out_after { out.new ≡ card_after bytes.now out.old }
@@ -31,7 +33,7 @@ pub fn yurbantse_card(bytes: &[u8], out: &mut [u8]) -> i32
     number_of(fire_card::calls::card(bytes, out))
 }
 
-// The text of a refusal: the bytes written, or minus 14.
+// The text of a refusal: the bytes written, or minus 14, kept as it is, and a refusal by its number: C has neither `Result` nor `Refusal`.
 pub fn yurbantse_refusal(n: u8, out: &mut [u8]) -> i32
     ensures value { result ≡ exported (refusal_answer n out.old) }
     ensures out_after { out.new ≡ refusal_after n out.old }
@@ -48,7 +50,7 @@ fn planing_of(bytes: &[u8]) -> Result<Option<Cut>, Refusal>
     Ok(least_cut(accepted))
 }
 
-// An answer as one number.
+// An answer as one number, which is kept as it is, and so is its cast: C is answered one `int32_t`, and a place and tenths of mm fit it.
 fn cut_number(answer: Result<Option<Cut>, Refusal>) -> i32
     ensures { result ≡ exported_cut (by_number answer) }
 {
@@ -60,7 +62,7 @@ fn cut_number(answer: Result<Option<Cut>, Refusal>) -> i32
 }
 
 // The least cut of one lamella that lowers the REI grade of the record's panel: 1,000 times the lamella's place and the tenths of mm, 0
-// where no cut does, or minus the refusal's number.
+// where no cut does, or minus the refusal's number, one number, which is kept as it is, for C.
 pub fn yurbantse_planing(bytes: &[u8]) -> i32
     ensures { result ≡ exported_cut (record_planing bytes.now) }
 {

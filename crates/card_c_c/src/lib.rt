@@ -9,6 +9,7 @@ ghost use Rattle.card_c.specs.Planing.{record_planing, exported_cut};
 
 // The card of a record: the bytes written, or minus the refusal's number.
 #[unsafe(no_mangle)]
+// One number for the answer, and a space beside the bytes, are kept as they are: C wants them so.
 pub extern "C" fn yurbantse_card(bytes: &[u8], out: &mut [u8]) -> i32
     ensures value { result ≡ exported (card_answer bytes.now out.old) }
     ensures out_after { out.new ≡ card_after bytes.now out.old }
@@ -18,6 +19,7 @@ pub extern "C" fn yurbantse_card(bytes: &[u8], out: &mut [u8]) -> i32
 
 // The text of a refusal: the bytes written, or minus 14.
 #[unsafe(no_mangle)]
+// One number for the answer, and one for the refusal, are kept as they are: C wants them so.
 pub extern "C" fn yurbantse_refusal(n: u8, out: &mut [u8]) -> i32
     ensures value { result ≡ exported (refusal_answer n out.old) }
     ensures out_after { out.new ≡ refusal_after n out.old }
@@ -28,6 +30,7 @@ pub extern "C" fn yurbantse_refusal(n: u8, out: &mut [u8]) -> i32
 // The least cut of one lamella that lowers the REI grade of the record's panel: 1,000 times the lamella's place and the tenths of mm, 0
 // where no cut does, or minus the refusal's number.
 #[unsafe(no_mangle)]
+// One number for the answer is kept as it is: C wants it so.
 pub extern "C" fn yurbantse_planing(bytes: &[u8]) -> i32
     ensures { result ≡ exported_cut (record_planing bytes.now) }
 {

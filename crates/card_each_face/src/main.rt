@@ -1,4 +1,5 @@
-// The program `card`, held to what it prints for a fire on each face alone: the lesser R comes from the one, the lesser EI from the other.
+// The program `card`, kept as it is, one for each stored input, as `rt ci` takes them: held to what it prints for a fire on each face
+// alone: the lesser R comes from the one, the lesser EI from the other.
 #![tactic(auto)]
 
 use std::io;

@@ -1,4 +1,4 @@
-// The program `card`, held to what it prints for an empty input.
+// The program `card`, kept as it is, one for each stored input, as `rt ci` takes them: held to what it prints for an empty input.
 #![tactic(auto)]
 
 use std::io;

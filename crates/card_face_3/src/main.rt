@@ -1,4 +1,5 @@
-// The program `card`, held to what it prints for a record with a face that there is not.
+// The program `card`, kept as it is, one for each stored input, as `rt ci` takes them: held to what it prints for a record with a face
+// that there is not.
 #![tactic(auto)]
 
 use std::io;

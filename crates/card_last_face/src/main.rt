@@ -1,4 +1,5 @@
-// The program `card`, held to what it prints for a record of version 2 with its fire on the last face.
+// The program `card`, kept as it is, one for each stored input, as `rt ci` takes them: held to what it prints for a record of version 2
+// with its fire on the last face.
 #![tactic(auto)]
 
 use std::io;

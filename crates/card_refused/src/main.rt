@@ -1,4 +1,5 @@
-// The program `card`, held to what it prints for a record that is refused.
+// The program `card`, kept as it is, one for each stored input, as `rt ci` takes them: held to what it prints for a record that is
+// refused.
 #![tactic(auto)]
 
 use std::io;

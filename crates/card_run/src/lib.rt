@@ -4,9 +4,8 @@
 
 pub mod texts;
 
-ghost use Rattle.std.specs.Prelude.{◌≡◌, ◌≤◌, length, take};
+ghost use Rattle.std.specs.Prelude.{◌≡◌};
 ghost use Rattle.fire_card.specs.Printed.{printed_text};
-ghost use Rattle.lent_input.specs.Counts.{IsPrefixLen};
 ghost use Rattle.card_run.specs.Input.{SpeaksForAll};
 
 use fire_card::CARD_MOST;
@@ -15,12 +14,13 @@ use std::io;
 use std::io::Read;
 use texts::text_for;
 
-// What of the input fits into the space. No open call: there must be room for one byte more than the
-// longest record has, so that what is printed for the bytes read is what is printed for the whole input.
-fn read_input(input: &mut impl Read, space: &mut [u8]) -> usize
-    requires { 55 ≤ length space.old }
-    ensures prefix_len { IsPrefixLen result space.new }
-    ensures speaks_for_all { SpeaksForAll (length space.old) (take result space.new) }
+// One byte more than the longest record has, and some to spare.
+const ROOM: usize = 64;
+
+// What of the input fits into the space. No open call: there is room for one byte more than the longest record has, so that what is printed
+// for the bytes read is what is printed for the whole input.
+fn read_input<'a>(input: &mut impl Read, space: &'a mut [u8; ROOM]) -> &'a [u8]
+    ensures { SpeaksForAll ROOM result.now }
 {
     read_full(input, space)
 }
@@ -38,9 +38,9 @@ fn print(rt: &(impl Print + Eprint), bytes: &[u8], text: &[u8]) -> io::Result<()
 }
 
 pub fn run(rt: &(impl Input + Print + Eprint)) -> io::Result<()> {
-    let mut bytes = [0u8; 64];
-    let n = read_input(&mut rt.reader(), &mut bytes);
-    let mut text = [0u8; CARD_MOST];
-    let k = text_for(&bytes[..n], &mut text);
-    print(rt, &bytes[..n], &text[..k])
+    let mut bytes = [0u8; ROOM];
+    let record = read_input(&mut rt.reader(), &mut bytes);
+    let mut space = [0u8; CARD_MOST];
+    let text = text_for(record, &mut space);
+    print(rt, record, text)
 }

@@ -1,17 +1,10 @@
 // The load minute of an accepted panel, and the same in seconds.
 ghost use Rattle.std.specs.Prelude.{◌≡◌};
-ghost use Rattle.load.specs.LoadMinute.{printed_load, load_seconds, printed_load_seconds, minutes_in, seconds_over};
+ghost use Rattle.load.specs.LoadMinute.{printed_load, printed_load_seconds, minutes_in, seconds_over};
 
-use crate::scan::scan;
+use crate::scan::fire_seconds;
 use limits::check::Accepted;
 use limits::minute::Minute;
-
-// Of the fire on the first face.
-fn fire_seconds(fire: Accepted) -> u16
-    ensures { result ≡ load_seconds fire }
-{
-    scan(fire.panel())
-}
 
 // The failure time's whole seconds, the lesser of two fires; their whole minutes are the load minute.
 pub fn load_seconds_of(accepted: Accepted) -> u16

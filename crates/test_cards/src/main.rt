@@ -1,5 +1,5 @@
-// The test program whose stored input is about cards, load and the grades of panels: `card`, `refusal`, `load`, `seconds`, `reserve`,
-// `loadgrade`, `eigrade`, `reigrade`.
+// The test program, kept as it is, one for each stored input, as `rt ci` takes them: its stored input is about cards, load and the grades
+// of panels: `card`, `refusal`, `load`, `seconds`, `reserve`, `loadgrade`, `eigrade`, `reigrade`.
 #![tactic(auto)]
 
 use std::io;

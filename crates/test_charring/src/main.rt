@@ -1,4 +1,4 @@
-// The test program whose stored input is about charring: `char`, `table`.
+// The test program, kept as it is, one for each stored input, as `rt ci` takes them: its stored input is about charring: `char`, `table`.
 #![tactic(auto)]
 
 use std::io;

@@ -1,4 +1,5 @@
-// The test program whose stored input is about layers and grades: `time`, `sum`, `grade`, `rei`.
+// The test program, kept as it is, one for each stored input, as `rt ci` takes them: its stored input is about layers and grades: `time`,
+// `sum`, `grade`, `rei`.
 #![tactic(auto)]
 
 use std::io;

@@ -1,7 +1,9 @@
 // The words of a line, and what a word spells.
-ghost use Rattle.lent_input.specs.Counts.{IsPrefixLen};
-ghost use Rattle.std.specs.Prelude.{◌≡◌, ◌≤◌, ◌==◌, position};
+ghost use Rattle.std.specs.Prelude.{◌≡◌, ◌≤◌, ◌==◌, length, position};
 ghost use Rattle.std.specs.List.{before_first, after_first};
+
+use std::str;
+use std::str::FromStr;
 
 // The place of a line's first blank.
 fn first_blank(line: &[u8]) -> Option<usize>
@@ -21,45 +23,31 @@ pub fn split_word(line: &[u8]) -> (&[u8], &[u8])
     }
 }
 
-// A decimal digit's value; 0 for any other character.
-fn decimal_digit(c: u8) -> u32 {
-    match c {
-        b'0'..=b'9' => u32::from(c - b'0'),
-        _ => 0,
-    }
+// The text that these bytes are; an empty one where they are none.
+fn as_text(word: &[u8]) -> &str {
+    str::from_utf8(word).unwrap_or("")
 }
 
-// The number that a word of decimal digits spells, at most the greatest u32.
-pub fn number(word: &[u8]) -> u32 {
-    word.iter().fold(0, |n: u32, c| {
-        n.saturating_mul(10).saturating_add(decimal_digit(*c))
-    })
+// The decimal number that a word spells; the greatest of the type, which is handed over, where it spells a greater one, or none.
+pub fn number<T: FromStr + Drop>(word: &[u8], greatest: T) -> T
+where
+    T::Err: Drop,
+{
+    as_text(word).parse().unwrap_or(greatest)
 }
 
 // The same, at most the greatest u16.
 pub fn number16(word: &[u8]) -> u16 {
-    u16::try_from(number(word)).unwrap_or(u16::MAX)
+    number(word, u16::MAX)
 }
 
-// A hexadecimal digit's value; 0 for any other character.
-fn hex_digit(c: u8) -> u8
-    ensures { result ≤ 15 }
-{
-    match c {
-        b'0'..=b'9' => c - b'0',
-        b'a'..=b'f' => c - b'a' + 10,
-        _ => 0,
-    }
-}
-
-// Puts the bytes that a hexadecimal word spells at the start of out, as many as fit, and answers how many there are. A lone `-` spells
-// none.
-pub fn hex_bytes(word: &[u8], out: &mut [u8]) -> usize
-    ensures { IsPrefixLen result out.new }
+// Puts the bytes that a hexadecimal word spells at the start of out, as many as fit, and answers these. A lone `-` spells none.
+pub fn hex_bytes<'a>(word: &[u8], out: &'a mut [u8]) -> &'a [u8]
+    ensures { length result.now ≤ length out.old }
 {
     let (pairs, _) = word.as_chunks::<2>();
-    for (byte, [high, low]) in out.iter_mut().zip(pairs) {
-        *byte = 16 * hex_digit(*high) + hex_digit(*low);
+    for (byte, pair) in out.iter_mut().zip(pairs) {
+        *byte = u8::from_str_radix(as_text(pair), 16).unwrap_or(0);
     }
-    pairs.len().min(out.len())
+    &out[..pairs.len().min(out.len())]
 }

@@ -1,20 +1,18 @@
 // Panels that no record gives: built here, field by field, and handed to each open call. A line has the refusals of `panel_check`, of
 // `section`, of `write`, of `same_build` with the panel in the first and in the second place, of `ei_sum` and `ei`, and at
-// minute 0 of `char_depth`, `effective_depth`, `phase` and `depth_table`, 0 for none, and the panel's name.
+// minute 0 of `char_depth`, `effective_depth`, `phase` and `depth_table`, 0 for none (kept as it is, for the stored output), and the panel's
+// name.
 #![tactic(auto)]
 
 use limits::refusal::Refusal;
 use panel::{Board, Cladding, Panel};
-use section::Section;
 use std::io;
 use test_lines::output;
+use test_run::answers::{Answer, Parts, same_word};
 
-// The refusal's number, 0 where there is none.
+// The refusal's number, 0 where there is none, which is kept as it is: the stored output has it so.
 fn number_of<T: Drop>(answer: Result<T, Refusal>) -> u8 {
-    match answer {
-        Ok(_) => 0,
-        Err(refusal) => u8::from(refusal),
-    }
+    answer.err().map_or(0, u8::from)
 }
 
 fn print_panel(rt: &impl Print, p: Panel, name: &[u8]) -> io::Result<()> {
@@ -48,48 +46,32 @@ fn print_record(rt: &impl Print, p: Panel, name: &[u8]) -> io::Result<()> {
     output::end_line(rt, name)
 }
 
-fn print_number(rt: &impl Print, answer: Result<u32, Refusal>) -> io::Result<()> {
-    match answer {
-        Ok(number) => print!(rt; "{number}"),
-        Err(_) => output::text(rt, b"refused"),
-    }
+fn print_answer<T: Answer + Drop>(rt: &impl Print, answer: T, name: &[u8]) -> io::Result<()> {
+    answer.print(rt)?;
+    output::end_line(rt, name)
 }
 
 // The sum of the layer times, in hundredths of a minute.
 fn print_sum(rt: &impl Print, p: Panel, name: &[u8]) -> io::Result<()> {
-    print_number(rt, layers::calls::ei_sum(p))?;
-    output::end_line(rt, name)
-}
-
-fn print_parts(rt: &impl Print, s: Section) -> io::Result<()> {
-    let Section { n, p, q, lo, hi } = s;
-    print!(rt; "{n} {p} {q} {lo} {hi}")
+    print_answer(rt, layers::calls::ei_sum(p), name)
 }
 
 // N, P, Q, lo and hi at a depth in tenths of mm.
 fn print_section(rt: &impl Print, p: Panel, depth: u32, name: &[u8]) -> io::Result<()> {
-    match limits::calls::section(p, depth) {
-        Ok((s, _)) => print_parts(rt, s)?,
-        Err(_) => output::text(rt, b"refused")?,
-    }
-    output::end_line(rt, name)
+    let answer = limits::calls::section(p, depth);
+    print_answer(rt, answer.map(|(section, _)| Parts(section)), name)
 }
 
 // The char depth in micrometres.
 fn print_char(rt: &impl Print, p: Panel, minute: u16, name: &[u8]) -> io::Result<()> {
-    print_number(rt, charring::calls::char_depth(p, minute))?;
-    output::end_line(rt, name)
+    print_answer(rt, charring::calls::char_depth(p, minute), name)
 }
 
 fn print_build(rt: &impl Print, a: Panel, b: Panel, name: &[u8]) -> io::Result<()> {
-    match limits::calls::same_build(a, b) {
-        Ok(true) => output::text(rt, b"same")?,
-        Ok(false) => output::text(rt, b"different")?,
-        Err(refusal) => print!(rt; "{refusal}")?,
-    }
-    output::end_line(rt, name)
+    print_answer(rt, limits::calls::same_build(a, b).map(same_word), name)
 }
 
+// The panel's arrays and raw numbers are kept as they are, here and below: a panel is plain data, whose numbers the calls refuse.
 fn panel(
     cladding: Cladding,
     failure_time: u32,
@@ -113,11 +95,12 @@ fn panel(
     }
 }
 
+// The arrays are kept as they are: the panel's own.
 fn unclad(count: usize, directions: [u8; 9], thicknesses: [u16; 9]) -> Panel {
     panel(Cladding::Unclad, 0, count, directions, thicknesses)
 }
 
-// The document's panel G under boards.
+// The document's panel G under boards. The arrays are kept as they are: the panel's own.
 fn clad(cladding: Cladding, failure_time: u32) -> Panel {
     let directions = [1u8, 0, 1, 0, 0, 0, 0, 0, 0];
     let thicknesses = [300u16, 400, 300, 0, 0, 0, 0, 0, 0];
@@ -128,6 +111,7 @@ fn g() -> Panel {
     clad(Cladding::Unclad, 0)
 }
 
+// The type's letter is kept as it is, a raw number of the panel.
 fn board(kind: u8, thickness: u16, joint: u8) -> Board {
     Board {
         kind,
@@ -136,10 +120,12 @@ fn board(kind: u8, thickness: u16, joint: u8) -> Board {
     }
 }
 
+// As in `board`, the type is kept as it is.
 fn one(kind: u8, thickness: u16, joint: u8, failure_time: u32) -> Panel {
     clad(Cladding::One(board(kind, thickness, joint)), failure_time)
 }
 
+// As in `board`, the types are kept as they are.
 fn two(outer: u8, inner: u8, failure_time: u32) -> Panel {
     clad(
         Cladding::Two(board(outer, 125, 100), board(inner, 125, 100)),
@@ -148,26 +134,29 @@ fn two(outer: u8, inner: u8, failure_time: u32) -> Panel {
 }
 
 fn print_loads(rt: &impl Print) -> io::Result<()> {
-    let mut p = g();
-    print_panel(rt, p, b"G")?;
-    p.bond = 255;
-    print_panel(rt, p, b"bond 255")?;
-    p = g();
-    p.gap = 2;
-    print_panel(rt, p, b"gap 2")?;
-    p = g();
-    p.rate = 255;
-    print_panel(rt, p, b"rate 255")?;
-    p = g();
-    p.strength = 65535;
-    print_panel(rt, p, b"strength 65,535")?;
-    p = g();
-    p.moment = 4294967295;
-    print_panel(rt, p, b"moment 4,294,967,295")?;
-    p.moment = 43057;
-    print_panel(rt, p, b"moment 43,057")?;
-    p.moment = 43056;
-    print_panel(rt, p, b"moment 43,056")
+    let g = g();
+    print_panel(rt, g, b"G")?;
+    print_panel(rt, Panel { bond: 255, ..g }, b"bond 255")?;
+    print_panel(rt, Panel { gap: 2, ..g }, b"gap 2")?;
+    print_panel(rt, Panel { rate: 255, ..g }, b"rate 255")?;
+    print_panel(
+        rt,
+        Panel {
+            strength: 65535,
+            ..g
+        },
+        b"strength 65,535",
+    )?;
+    print_panel(
+        rt,
+        Panel {
+            moment: 4294967295,
+            ..g
+        },
+        b"moment 4,294,967,295",
+    )?;
+    print_panel(rt, Panel { moment: 43057, ..g }, b"moment 43,057")?;
+    print_panel(rt, Panel { moment: 43056, ..g }, b"moment 43,056")
 }
 
 fn print_boards(rt: &impl Print) -> io::Result<()> {
@@ -252,7 +241,7 @@ fn print_lamellae(rt: &impl Print) -> io::Result<()> {
     print_panel(rt, unclad(3, g_along, [0u16; 9]), b"thickness 0")
 }
 
-// Unused places are ignored, and written nowhere.
+// Unused places are ignored, and written nowhere. The arrays are kept as they are: the panel's own.
 fn print_unused(rt: &impl Print) -> io::Result<()> {
     let directions = [1u8, 0, 1, 255, 255, 255, 255, 255, 255];
     let thicknesses = [300u16, 400, 300, 65535, 65535, 65535, 65535, 65535, 65535];
@@ -268,30 +257,27 @@ fn print_unused(rt: &impl Print) -> io::Result<()> {
 
 // Of two panels the first is checked before the second; strength, moment and unused places do not count.
 fn print_builds(rt: &impl Print) -> io::Result<()> {
-    let mut fast = g();
-    fast.rate = 255;
-    let mut loose = g();
-    loose.bond = 255;
+    let fast = Panel { rate: 255, ..g() };
+    let loose = Panel { bond: 255, ..g() };
     print_build(rt, fast, loose, b"the first meets 4, the second 3")?;
     print_build(rt, loose, fast, b"the first meets 3, the second 4")?;
     print_build(rt, g(), loose, b"the second alone meets 3")?;
-    let mut other = unclad(
-        3,
-        [1u8, 0, 1, 1, 1, 1, 1, 1, 1],
-        [300u16, 400, 300, 7, 7, 7, 7, 7, 7],
-    );
-    other.strength = 400;
-    other.moment = 0;
+    let other = Panel {
+        strength: 400,
+        moment: 0,
+        ..unclad(
+            3,
+            [1, 0, 1, 1, 1, 1, 1, 1, 1],
+            [300, 400, 300, 7, 7, 7, 7, 7, 7],
+        )
+    };
     print_build(rt, other, g(), b"other strength, moment and unused places")?;
-    other.bond = 1;
-    print_build(rt, other, g(), b"other bond too")
+    print_build(rt, Panel { bond: 1, ..other }, g(), b"other bond too")
 }
 
+// Version and face are kept as they are, raw numbers of the panel.
 fn faced(p: Panel, version: u8, face: u8) -> Panel {
-    let mut q = p;
-    q.version = version;
-    q.face = face;
-    q
+    Panel { version, face, ..p }
 }
 
 // The version and the face are looked at before all else.
@@ -307,8 +293,7 @@ fn print_versions(rt: &impl Print) -> io::Result<()> {
     print_panel(rt, faced(g(), 2, 2), b"version 2, face 2")?;
     print_panel(rt, faced(g(), 2, 3), b"version 2, face 3")?;
     print_panel(rt, faced(g(), 2, 255), b"version 2, face 255")?;
-    let mut loose = g();
-    loose.bond = 255;
+    let loose = Panel { bond: 255, ..g() };
     print_panel(rt, faced(loose, 3, 0), b"version 3, bond 255")?;
     print_panel(rt, faced(loose, 1, 1), b"version 1, face 1, bond 255")?;
     print_panel(rt, faced(loose, 2, 2), b"version 2, face 2, bond 255")
@@ -332,18 +317,22 @@ fn print_fire(rt: &impl Print, full: Panel, empty: Panel) -> io::Result<()> {
     print_build(rt, full, empty, b"walls, unused places full and 0")
 }
 
-// The same from each fire: turning reverses the used places alone.
+// The same from each fire: turning reverses the used places alone. The arrays are kept as they are: the panel's own.
 fn print_fires(rt: &impl Print) -> io::Result<()> {
     let directions = [1u8, 0, 1, 255, 255, 255, 255, 255, 255];
     let thicknesses = [200u16, 300, 400, 65535, 65535, 65535, 65535, 65535, 65535];
-    let mut full = unclad(3, directions, thicknesses);
-    full.bond = 1;
-    let mut empty = unclad(
-        3,
-        [1u8, 0, 1, 0, 0, 0, 0, 0, 0],
-        [200u16, 300, 400, 0, 0, 0, 0, 0, 0],
-    );
-    empty.bond = 1;
+    let full = Panel {
+        bond: 1,
+        ..unclad(3, directions, thicknesses)
+    };
+    let empty = Panel {
+        bond: 1,
+        ..unclad(
+            3,
+            [1, 0, 1, 0, 0, 0, 0, 0, 0],
+            [200, 300, 400, 0, 0, 0, 0, 0, 0],
+        )
+    };
     print_fire(rt, faced(full, 2, 1), faced(empty, 2, 1))?;
     print_fire(rt, faced(full, 2, 2), faced(empty, 2, 2))?;
     print_build(rt, full, faced(empty, 2, 0), b"versions 1 and 2, face 0")?;
@@ -364,25 +353,30 @@ fn print_fires(rt: &impl Print) -> io::Result<()> {
 }
 
 fn print_greatest(rt: &impl Print) -> io::Result<()> {
-    let mut p = panel(
-        Cladding::Two(board(255, 65535, 255), board(255, 65535, 255)),
-        4294967295,
-        18446744073709551615,
-        [255u8; 9],
-        [65535u16; 9],
-    );
-    p.bond = 255;
-    p.rate = 255;
-    p.gap = 255;
-    p.strength = 65535;
-    p.moment = 4294967295;
+    let board = board(255, 65535, 255);
+    let cladding = Cladding::Two(board, board);
+    let p = Panel {
+        version: 255,
+        face: 255,
+        bond: 255,
+        rate: 255,
+        gap: 255,
+        strength: 65535,
+        moment: 4294967295,
+        ..panel(
+            cladding,
+            4294967295,
+            18446744073709551615,
+            [255; 9],
+            [65535; 9],
+        )
+    };
     print_panel(rt, faced(p, 2, 2), b"all past the face at their greatest")?;
-    p = faced(p, 255, 255);
     print_panel(rt, p, b"all fields at their greatest")?;
     print_record(rt, p, b"space after all fields at their greatest")
 }
 
-// t_ch, the start of charring, in thousandths of a minute.
+// t_ch, the start of charring, in thousandths of a minute. The gap is kept as it is, a raw number of the panel.
 fn print_start(rt: &impl Print, gap: u8, cladding: Cladding, name: &[u8]) -> io::Result<()> {
     let start = panel::boards::charring_start(gap, cladding);
     print!(rt; "{start}")?;

@@ -1,4 +1,5 @@
-// The test program whose stored input is about records and the panels in them: `read`, `write`, `build`.
+// The test program, kept as it is, one for each stored input, as `rt ci` takes them: its stored input is about records and the panels in
+// them: `read`, `write`, `build`.
 #![tactic(auto)]
 
 use std::io;

@@ -1,15 +1,24 @@
 // The whole of the test programs that differ in their stored input alone. Answers each line of the input: its first word names a call,
-// and the module of that call says what follows and what is printed. The answer begins with the same word. A line with another first
-// word gives `unknown` and what follows. A new call is a module or a function of one, and an arm below.
+// and what follows is the call's. The answer begins with the same word. A line with another first word gives `unknown` and what follows. A
+// new call is an arm below, and a module where more is printed than an answer of `answers`.
+//
+// A record (HEX, in hexadecimal) stands for its panel, and a refused one for a blank panel. Where nothing else is said, a line is answered
+// by what its call answers, or the refusal, and by TEXT:
+//
+// - `build HEX HEX TEXT`: whether the two panels are the same build.
+// - `section DEPTH HEX TEXT`: the section at a depth in tenths of mm: N, P, Q, lo and hi and whether the depth passes.
+// - `grade MINUTE TEXT`: the grade of a bare minute, in minutes; `rei R EI TEXT`: that of the lower of two; `loadgrade HEX TEXT`, `eigrade
+//   HEX TEXT`, `reigrade HEX TEXT`: that of the panel for load, for EI, for both.
+// - `load HEX TEXT`: the load minute; `seconds HEX TEXT`: the failure time in whole minutes and seconds; `reserve HEX WANTED TEXT`: the
+//   reserve against a wanted minute.
+// - `planing HEX TEXT`: the least cut of one lamella that lowers the REI grade, as the lamella's place and the tenths of mm, or `none`.
 #![tactic(auto)]
 
-mod answers;
-mod builds;
+pub mod answers;
 mod cards;
 mod chars;
-mod gradings;
-mod loads;
-mod planings;
+mod lending;
+mod lines;
 mod reads;
 mod records;
 mod sections;
@@ -18,35 +27,54 @@ mod tables;
 mod times;
 mod writes;
 
+use answers::{LeastCut, Tested, Time, minutes, same_word};
+use grades::calls::{grade_of, rei_of};
 use lent_input::read_full;
+use limits::calls::{same_build, section};
+use lines::Line;
+use load::calls::{load_minute, load_time, reserve};
+use planing::calls::planing;
+use ratings::calls::{ei_grade, load_grade, rei_grade};
+use records::panel_of;
+use sections::carried_answer;
 use std::io;
-use test_lines::input::split_word;
+use test_lines::input::number16;
 use test_lines::output;
 
-fn answer(rt: &impl Print, line: &[u8]) -> io::Result<()> {
-    let (word, rest) = split_word(line);
-    match word {
-        b"read" => reads::answer(rt, rest),
-        b"write" => writes::answer(rt, rest),
-        b"build" => builds::answer(rt, rest),
-        b"section" => sections::answer_section(rt, rest),
-        b"carried" => sections::answer_carried(rt, rest),
-        b"char" => chars::answer(rt, rest),
-        b"table" => tables::answer(rt, rest),
-        b"time" => times::answer(rt, rest),
-        b"sum" => sums::answer(rt, rest),
-        b"grade" => gradings::answer_grade(rt, rest),
-        b"rei" => gradings::answer_rei(rt, rest),
-        b"card" => cards::answer_card(rt, rest),
-        b"refusal" => cards::answer_refusal(rt, rest),
-        b"load" => loads::answer_load(rt, rest),
-        b"seconds" => loads::answer_seconds(rt, rest),
-        b"reserve" => loads::answer_reserve(rt, rest),
-        b"loadgrade" => gradings::answer_load_grade(rt, rest),
-        b"eigrade" => gradings::answer_ei_grade(rt, rest),
-        b"reigrade" => gradings::answer_rei_grade(rt, rest),
-        b"planing" => planings::answer(rt, rest),
-        _ => output::unknown(rt, rest),
+fn answer(rt: &impl Print, text: &[u8]) -> io::Result<()> {
+    let line = Line::of(text);
+    match line.word {
+        b"read" => line.by_word(rt, reads::read),
+        b"write" => line.by_panel_at(rt, usize::MAX, writes::write),
+        b"build" => line.by_words(
+            rt,
+            |a, b| same_build(panel_of(a), panel_of(b)).map(same_word),
+        ),
+        b"section" => line.by_panel_at(rt, u32::MAX, |p, depth| section(p, depth).map(Tested)),
+        b"carried" => line.by_panel_at(
+            rt,
+            u32::MAX,
+            |p, depth| carried_answer(p, depth).map(Tested),
+        ),
+        b"char" => line.by_panel_at(rt, u16::MAX, chars::at_minute),
+        b"table" => line.by_panel_at(rt, usize::MAX, tables::fill),
+        b"time" => line.by_words(rt, |kind, h| times::time(kind, number16(h))),
+        b"sum" => line.by_panel(rt, sums::layer_times),
+        b"grade" => line.by_word(rt, |minute| grade_of(number16(minute)).map(minutes)),
+        b"rei" => line.by_words(rt, |r, ei| rei_of(number16(r), number16(ei)).map(minutes)),
+        b"card" => line.by_words(rt, cards::card),
+        b"refusal" => line.by_words(rt, cards::refusal),
+        b"load" => line.by_panel(rt, load_minute),
+        b"seconds" => line.by_panel(rt, |p| load_time(p).map(Time)),
+        b"reserve" => line.by_words(
+            rt,
+            |record, wanted| reserve(panel_of(record), number16(wanted)),
+        ),
+        b"loadgrade" => line.by_panel(rt, |p| load_grade(p).map(minutes)),
+        b"eigrade" => line.by_panel(rt, |p| ei_grade(p).map(minutes)),
+        b"reigrade" => line.by_panel(rt, |p| rei_grade(p).map(minutes)),
+        b"planing" => line.by_panel(rt, |p| planing(p).map(LeastCut)),
+        _ => output::unknown(rt, line.rest),
     }
 }
 
@@ -59,6 +87,6 @@ fn answer_all(rt: &impl Print, text: &[u8]) -> io::Result<()> {
 
 pub fn run(rt: &(impl Input + Print)) -> io::Result<()> {
     let mut input = [0u8; 65536];
-    let n = read_full(&mut rt.reader(), &mut input);
-    answer_all(rt, &input[..n])
+    let text = read_full(&mut rt.reader(), &mut input);
+    answer_all(rt, text)
 }

@@ -1,39 +1,37 @@
 // `read HEX TEXT`: reads the record in hexadecimal (`-` for no bytes). Prints the refusal's number and the text. For an accepted record,
 // number 0, it also says whether writing the panel gives back the very bytes.
+use crate::answers::Answer;
+use limits::refusal::Refusal;
 use panel::Panel;
 use std::io;
-use test_lines::input::{hex_bytes, split_word};
+use test_lines::input::hex_bytes;
 use test_lines::output;
 
-// Whether the first k bytes of the space are these.
-fn is_front(space: &[u8], k: usize, bytes: &[u8]) -> bool {
-    space.get(..k) == Some(bytes)
-}
+// Whether the bytes are given back, or the refusal.
+#[derive(Clone, Copy)]
+pub struct Reading(Result<bool, Refusal>);
 
-fn gives_back(p: Panel, bytes: &[u8]) -> bool {
-    let mut space = [0u8; 64];
-    match record::calls::write(p, &mut space) {
-        Ok(k) => is_front(&space, k, bytes),
-        Err(_) => false,
-    }
-}
-
-fn print_reading(rt: &impl Print, bytes: &[u8]) -> io::Result<()> {
-    match record::calls::read(bytes) {
-        Ok(accepted) if gives_back(accepted.panel(), bytes) => output::text(rt, b"0 same"),
-        Ok(_) => output::text(rt, b"0 differs"),
-        Err(refusal) => {
-            let number = u8::from(refusal);
-            print!(rt; "{number}")
+impl Answer for Reading {
+    fn print(&self, rt: &impl Print) -> io::Result<()> {
+        match self.0 {
+            Ok(true) => output::text(rt, b"0 same"),
+            Ok(false) => output::text(rt, b"0 differs"),
+            Err(refusal) => {
+                let number = u8::from(refusal);
+                print!(rt; "{number}")
+            }
         }
     }
 }
 
-pub fn answer(rt: &impl Print, line: &[u8]) -> io::Result<()> {
-    let (hex, name) = split_word(line);
+fn gives_back(p: Panel, bytes: &[u8]) -> bool {
+    let mut space = [0u8; 64];
+    let written = record::calls::write(p, &mut space);
+    written == Ok(bytes.len()) && space.starts_with(bytes)
+}
+
+pub fn read(hex: &[u8]) -> Reading {
     let mut bytes = [0u8; 128];
-    let n = hex_bytes(hex, &mut bytes);
-    output::text(rt, b"read ")?;
-    print_reading(rt, &bytes[..n])?;
-    output::end_line(rt, name)
+    let record = hex_bytes(hex, &mut bytes);
+    Reading(record::calls::read(record).map(|accepted| gives_back(accepted.panel(), record)))
 }

@@ -21,8 +21,7 @@ const BLANK: Panel = Panel {
 // The panel of the record that a hexadecimal word spells, of at most 128 bytes; a blank one where the record is refused.
 pub fn panel_of(word: &[u8]) -> Panel {
     let mut bytes = [0u8; 128];
-    let n = hex_bytes(word, &mut bytes);
-    match record::calls::read(&bytes[..n]) {
+    match record::calls::read(hex_bytes(word, &mut bytes)) {
         Ok(accepted) => accepted.panel(),
         Err(_) => BLANK,
     }

@@ -1,25 +1,25 @@
 // `sum HEX TEXT`: the layer times of the record's panel. Prints their sum in hundredths of a minute and EI in minutes, or the refusal,
 // and the text. A refused record stands for a blank panel.
-use crate::answers::print_answer;
-use crate::records::panel_of;
+use limits::refusal::Refusal;
 use panel::Panel;
-use std::io;
-use test_lines::input::split_word;
-use test_lines::output;
+use std::fmt;
 
-fn print_sum(rt: &impl Print, p: Panel) -> io::Result<()> {
-    match layers::calls::ei_sum(p) {
-        Ok(sum) => {
-            print!(rt; "{sum} EI ")?;
-            print_answer(rt, layers::calls::ei(p))
-        }
-        Err(refusal) => print!(rt; "{refusal}"),
+#[derive(Clone, Copy)]
+pub struct LayerTimes {
+    sum: u32,
+    ei: u32,
+}
+
+impl fmt::Display for LayerTimes {
+    fn fmt<W: fmt::Write>(&self, f: &mut fmt::Formatter<W>) -> fmt::Result {
+        let LayerTimes { sum, ei } = *self;
+        write!(f, "{sum} EI {ei}")
     }
 }
 
-pub fn answer(rt: &impl Print, line: &[u8]) -> io::Result<()> {
-    let (record, name) = split_word(line);
-    output::text(rt, b"sum ")?;
-    print_sum(rt, panel_of(record))?;
-    output::end_line(rt, name)
+pub fn layer_times(p: Panel) -> Result<LayerTimes, Refusal> {
+    Ok(LayerTimes {
+        sum: layers::calls::ei_sum(p)?,
+        ei: layers::calls::ei(p)?,
+    })
 }

@@ -1,26 +1,17 @@
 // `table SPACE HEX TEXT`: fills the depth table of the record's panel into SPACE lent numbers, at most 400. They are the front of 400
 // numbers, each 7. Prints the answer, the sum of all 400, the sum of each times its place, those at the places 0, 90, 360 and 361, and
 // the text. A refused record stands for a blank panel.
-ghost use Rattle.std.specs.Prelude.{◌≤◌, length};
-
-use crate::records::panel_of;
+use crate::answers::Answer;
+use crate::lending::lend;
 use limits::refusal::Refusal;
 use panel::Panel;
 use std::io;
-use test_lines::input::{number, split_word};
-use test_lines::output;
 
-fn fill_table(p: Panel, out: &mut [u32], space: usize) -> Result<(), Refusal>
-    requires { space ≤ length out.old }
-{
-    charring::calls::depth_table(p, &mut out[..space])
-}
-
-fn print_filled(rt: &impl Print, answer: Result<(), Refusal>) -> io::Result<()> {
-    match answer {
-        Ok(()) => output::text(rt, b"filled"),
-        Err(refusal) => print!(rt; "{refusal}"),
-    }
+// What the call answers, and the 400 numbers.
+#[derive(Drop)]
+pub struct Filled {
+    answer: Result<(), Refusal>,
+    entries: [u32; 400],
 }
 
 // The sum of the entries, and the sum of each times its place: from the last entry on, what has been summed so far is added up.
@@ -34,25 +25,20 @@ fn print_sums(rt: &impl Print, entries: &[u32; 400]) -> io::Result<()> {
     print!(rt; " {sum} {placed}")
 }
 
-fn print_table(rt: &impl Print, p: Panel, space: usize) -> io::Result<()>
-    requires { space ≤ 400 }
-{
-    let mut entries = [7u32; 400];
-    let answer = fill_table(p, &mut entries, space);
-    print_filled(rt, answer)?;
-    print_sums(rt, &entries)?;
-    for place in [0, 90, 360, 361] {
-        let entry = entries[place];
-        print!(rt; " {entry}")?;
+impl Answer for Filled {
+    fn print(&self, rt: &impl Print) -> io::Result<()> {
+        self.answer.map(|()| "filled").print(rt)?;
+        print_sums(rt, &self.entries)?;
+        for place in [0, 90, 360, 361] {
+            let entry = self.entries[place];
+            print!(rt; " {entry}")?;
+        }
+        Ok(())
     }
-    Ok(())
 }
 
-pub fn answer(rt: &impl Print, line: &[u8]) -> io::Result<()> {
-    let (space, rest) = split_word(line);
-    let (record, name) = split_word(rest);
-    let room = (number(space) as usize).min(400);
-    output::text(rt, b"table ")?;
-    print_table(rt, panel_of(record), room)?;
-    output::end_line(rt, name)
+// As `write` of `writes`, and kept as it is: the one fills numbers and the other bytes, each printed its own way, and what is lent is one line.
+pub fn fill(p: Panel, space: usize) -> Filled {
+    let (answer, entries) = lend([7; 400], space, |out| charring::calls::depth_table(p, out));
+    Filled { answer, entries }
 }

@@ -1,4 +1,5 @@
-// The test program whose stored input is about the remaining section: `section`, `carried`.
+// The test program, kept as it is, one for each stored input, as `rt ci` takes them: its stored input is about the remaining section:
+// `section`, `carried`.
 #![tactic(auto)]
 
 use std::io;

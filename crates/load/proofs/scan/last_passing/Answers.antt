@@ -1,6 +1,10 @@
 -- `load::scan::last_passing` meets its contract: every depth to the present one passes, and the first that does not decides.
 use Prim.Native.Nat.{ℕ, ◌+◌, ◌≤◌, ◌<◌}
+use Rattle.limits.proofs.Accepted.{accepted_fits, accepted_passes}
+use Rattle.limits.proofs.Carried.{accepted_thick}
+use Rattle.limits.specs.Refusals.{panel_refusal}
 use Rattle.load.proofs.LastPassing.{last_found}
+use Rattle.load.specs.LastPassing.{last_passing}
 use Rattle.load.specs.Failure.{EveryTenthPasses}
 use Rattle.panel.specs.Lamellae.{Lamella, lamellae, thickness}
 use Rattle.panel.specs.Timber.{factor_of}
@@ -44,8 +48,8 @@ passes_still p c r each at later d n =
     ap (carries (factor_of p.bond) p.moment p.strength) (n_stays c.depth (lamellae p) each same)
 
 -- the lamellae keep the limits of line 11
-fits : (p : Panel) → SectionFits p × (EachThick (lamellae p) × (depth_passes p 0 ≡ true)) → LamellaeFit (lamellae p)
-fits p h = record { thickness = h.0.thickness; each = h.1.0 }
+fits : (p : Panel) → panel_refusal p ≡ 0 → LamellaeFit (lamellae p)
+fits p e = record { thickness = (accepted_fits p e).thickness; each = accepted_thick p e }
 
 -- with one depth more
 passes_more : (p : Panel) (depth next : ℕ) → next ≡ depth + 1 → EveryTenthPasses (depth_passes p) depth → depth_passes p (depth + 1) ≡ true
@@ -53,49 +57,61 @@ passes_more : (p : Panel) (depth next : ℕ) → next ≡ depth + 1 → EveryTen
 passes_more p depth next e all one d u =
     ⊎_elim (λ (same : d ≡ next). ap (depth_passes p) (same ∙ e) ∙ one) (λ (less : d < next). all d (omega arith)) (eq-or-lt_of_le u)
 
-later : (c : In-Some) → CarriedIn c.args.p c.in-Some.next
+later : (c : In-Some) → CarriedIn c.panel-p.result c.in-Some.next
 later c = c.in-Some.ensures.0 ∙ c.loop-next.invariant.0
 
-judged : (c : After-section_passes) → CarriedIn c.args.p c.in-Some.next → c.section_passes.result ≡ depth_passes c.args.p (c.loop-next.c.depth + 1)
+judged : (c : After-section_passes) → CarriedIn c.panel-p.result c.in-Some.next → c.section_passes.result ≡ depth_passes c.panel-p.result (c.loop-next.c.depth + 1)
 judged c at =
     let v = c.of-design in
-    tested c.args.p c.in-Some.next v.result c.remaining.result.section (c.loop-next.c.depth + 1) c.section_passes.result at v.ensures.factor
+    tested c.panel-p.result c.in-Some.next v.result c.remaining.result.section (c.loop-next.c.depth + 1) c.section_passes.result at v.ensures.factor
     v.ensures.moment v.ensures.strength c.in-Some.ensures.1 c.remaining.ensures c.section_passes.ensures
 
 -- no depth lies past the panel's thickness
 within : (p : Panel) (c : Carried) → CarriedIn p c → c.depth ≤ thickness (lamellae p)
 within p c at = omega (arith, c.within, ap thickness at)
 
+pub start-c-requires : goal.start-c-requires
+start-c-requires c = rw c.lamellae.ensures (fits c.panel-p.result c.panel-p.ensures.accepted)
+
+pub loop-next-init : goal.loop-next-init
+loop-next-init c =
+    let p = c.panel-p.result in (
+      c.start-c.ensures.0 ∙ c.lamellae.ensures,
+      λ d u. ap (depth_passes p) (let z : d ≡ 0 = omega arith in z) ∙ accepted_passes p c.panel-p.ensures.accepted,
+    )
+
 pub returns-then-not-section_passes : goal.returns-then-not-section_passes
 returns-then-not-section_passes c =
     let i = c.loop-next.invariant in
     let at = goal.at.returns-then-not-section_passes c in
     sym
-    (last_found c.args.p c.loop-next.c.depth (within c.args.p c.loop-next.c i.0) i.1
+    (last_found c.panel-p.result c.loop-next.c.depth (within c.panel-p.result c.loop-next.c i.0) i.1
     (λ _. sym (judged at.After-section_passes (later at.In-Some)) ∙ c.if-not-section_passes.true))
+    ∙ ap last_passing c.panel-p.ensures.panel
 
 pub loop-next-preserved-else-not-section_passes : goal.loop-next-preserved-else-not-section_passes
 loop-next-preserved-else-not-section_passes c =
     let at = goal.at.loop-next-preserved-else-not-section_passes c in (
       later at.In-Some,
-      passes_more c.args.p c.loop-next.c.depth c.in-Some.next.depth c.in-Some.ensures.1 c.loop-next.invariant.1
+      passes_more c.panel-p.result c.loop-next.c.depth c.in-Some.next.depth c.in-Some.ensures.1 c.loop-next.invariant.1
           (sym (judged at.After-section_passes (later at.In-Some)) ∙ c.if-not-section_passes.false),
     )
 
 pub loop-next-preserved : goal.loop-next-preserved
 loop-next-preserved c =
-    let p = c.args.p in
+    let p = c.panel-p.result in
     let i = c.loop-next.invariant in
     let here = later (goal.at.loop-next-preserved c).In-Some in (
       here,
       passes_more p c.loop-next.c.depth c.in-Some.next.depth c.in-Some.ensures.1 i.1
-          (passes_still p c.loop-next.c c.in-Some.next c.requires.1.0 i.0 here c.in-Some.ensures.1 c.if-next-c.false
+          (passes_still p c.loop-next.c c.in-Some.next (accepted_thick p c.panel-p.ensures.accepted) i.0 here c.in-Some.ensures.1 c.if-next-c.false
           ∙ i.1 c.loop-next.c.depth (le_refl c.loop-next.c.depth)),
     )
 
 pub returns : goal.returns
 returns c =
-    let p = c.args.p in
+    let p = c.panel-p.result in
     let i = c.loop-next.invariant in
     let end : c.loop-next.c.depth ≡ thickness (lamellae p) = c.in_default.ensures ∙ ap thickness i.0 in
     sym (last_found p c.loop-next.c.depth (within p c.loop-next.c i.0) i.1 (λ less. absurd (let z : ⊥ = omega arith in z)))
+    ∙ ap last_passing c.panel-p.ensures.panel

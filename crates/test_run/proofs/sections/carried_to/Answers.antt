@@ -11,11 +11,8 @@ use Rattle.test_run.proofs.sections.carried_to.Goals as goal
 fits : (p : Panel) → panel_refusal p ≡ 0 → LamellaeFit (lamellae p)
 fits p e = record { thickness = (accepted_fits p e).thickness; each = accepted_thick p e }
 
-pub lamellae-requires : goal.lamellae-requires
-lamellae-requires c = (accepted_fits c.args.p c.requires).count
-
 pub start-c-requires : goal.start-c-requires
-start-c-requires c = rw c.lamellae.ensures (fits c.args.p c.requires)
+start-c-requires c = rw c.lamellae.ensures (fits c.panel-p.result c.panel-p.ensures.accepted)
 
 pub loop-c-init : goal.loop-c-init
 loop-c-init c = (c.start-c.ensures.0 ∙ c.lamellae.ensures, omega (arith, c.start-c.ensures.1))

@@ -1,6 +1,8 @@
--- `load::scan::scan` meets its contract: the last depth that passes decides for each second, and earlier ones pass too. Assumes nothing.
+-- `load::scan::fire_seconds` meets its contract: the last depth that passes decides for each second, and earlier ones pass too. Assumes nothing.
 use Prim.Native.Nat.{ℕ, ◌+◌}
+use Rattle.charring.proofs.Accepted.{fire_fits}
 use Rattle.charring.specs.Depths.{tenths_at}
+use Rattle.limits.proofs.Accepted.{accepted_passes}
 use Rattle.load.proofs.LastPassing.{time_by_depth}
 use Rattle.load.proofs.LoadMinutes.{test_zero, test_earlier}
 use Rattle.load.specs.LastPassing.{last_passing}
@@ -13,18 +15,21 @@ use lib.Dec.{leb}
 use mathlib.Core.Bool.{Bool, true, false}
 use mathlib.Core.Path.{◌≡◌, sym, ap, ◌∙◌}
 use native.Mathlib.Omega.{arith}
-use Rattle.load.proofs.scan.scan.Goals as goal
+use Rattle.load.proofs.scan.fire_seconds.Goals as goal
 
 -- the last depth decides for a second
 decided : (p : Panel) (second last : ℕ) (b : Bool) → depth_passes p 0 ≡ true → last ≡ last_passing p → b ≡ leb (tenths_at p second 60) last
     → time_test p second 60 ≡ b
 decided p second last b e l says = time_by_depth p second 60 (omega arith) e ∙ ap (leb (tenths_at p second 60)) (sym l) ∙ sym says
 
+pub of-requires : goal.of-requires
+of-requires c = fire_fits c.panel.result c.panel.ensures.accepted
+
 pub returns : goal.returns
 unfolding load_seconds whole_part
 returns c =
-    let p = c.args.p in
-    let passes = c.requires.section_fits.1.1 in
+    let p = c.args.accepted in
+    let passes = ap (λ (q : Panel). depth_passes q 0) (sym c.panel.ensures.panel) ∙ accepted_passes c.panel.result c.panel.ensures.accepted in
     let last = c.last_passing-last in
     let second = c.last_keeping.result in
     let found = c.last_keeping.ensures in
