@@ -22,8 +22,8 @@ decided : (p : Panel) (second last : ℕ) (b : Bool) → depth_passes p 0 ≡ tr
     → time_test p second 60 ≡ b
 decided p second last b e l says = time_by_depth p second 60 (omega arith) e ∙ ap (leb (tenths_at p second 60)) (sym l) ∙ sym says
 
-pub of-requires : goal.of-requires
-of-requires c = fire_fits c.panel.result c.panel.ensures.accepted
+pub of-fire-requires : goal.of-fire-requires
+of-fire-requires c = fire_fits c.panel.result c.panel.ensures.accepted
 
 pub returns : goal.returns
 unfolding load_seconds whole_part

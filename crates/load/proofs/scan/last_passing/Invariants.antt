@@ -15,7 +15,7 @@ abbrev pub CarriedIn : Panel → Carried → Type 0
 CarriedIn p c = lamellae_in c.lamellae ≡ lamellae p
 
 abbrev pub invariant-loop-next : goal.invariant-loop-next
-invariant-loop-next l = CarriedIn l.p l.c × EveryTenthPasses (depth_passes l.p) l.c.depth
+invariant-loop-next l = CarriedIn l.fn.accepted l.c × EveryTenthPasses (depth_passes l.fn.accepted) l.c.depth
 
 abbrev pub decreases-loop-next : goal.decreases-loop-next
-decreases-loop-next l = thickness (lamellae l.p) - l.c.depth
+decreases-loop-next l = thickness (lamellae l.fn.accepted) - l.c.depth

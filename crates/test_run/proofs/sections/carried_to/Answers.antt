@@ -1,5 +1,5 @@
 -- A panel that no line turns back keeps what the carrying asks of its lamellae.
-use Rattle.std.proofs.Common.{◌≡◌, ◌∙◌, arith}
+use Rattle.std.proofs.Common.{◌≡◌, ap, ◌∙◌, arith}
 use Rattle.limits.proofs.Accepted.{accepted_fits}
 use Rattle.limits.proofs.Carried.{accepted_thick}
 use Rattle.limits.specs.Refusals.{panel_refusal}
@@ -15,7 +15,7 @@ pub start-c-requires : goal.start-c-requires
 start-c-requires c = rw c.lamellae.ensures (fits c.panel-p.result c.panel-p.ensures.accepted)
 
 pub loop-c-init : goal.loop-c-init
-loop-c-init c = (c.start-c.ensures.0 ∙ c.lamellae.ensures, omega (arith, c.start-c.ensures.1))
+loop-c-init c = (c.start-c.ensures.0 ∙ c.lamellae.ensures ∙ ap lamellae c.panel-p.ensures.panel, omega (arith, c.start-c.ensures.1))
 
 pub loop-c-preserved : goal.loop-c-preserved
 loop-c-preserved c = (c.in-Some.ensures.0 ∙ c.loop-c.invariant.0, omega (arith, c.in-Some.ensures.1, c.loop-c-test.true))
