@@ -9,11 +9,10 @@ use Rattle.card_run.proofs.texts.refusal_into.Goals as goal
 room : (n : ℕ) → length (refusal_text n) ≤ 249
 room n = let long = length_line refusal_head (n ∷ []) in omega (arith, long)
 
-pub shared_ref_as_front-result : goal.shared_ref_as_front-result
-shared_ref_as_front-result c =
+pub slice_bounds-result-end : goal.slice_bounds-result-end
+slice_bounds-result-end c =
     let h = text_stands [] (refusal_text c.from.result) c.args.out.now tt c.in-Ok.k (sym c.in-Ok.ensures.value) in
-    let short = room c.from.result in
-    omega (arith, h.1.0, short)
+    h.1.0 ∙ ap length (sym (ap (take c.in-Ok.k) c.in-Ok.ensures.out_after ∙ h.1.1))
 
 pub returns-in-Ok : goal.returns-in-Ok
 returns-in-Ok c =
@@ -24,6 +23,6 @@ returns-in-Ok c =
 pub returns-in-Err : goal.returns-in-Err
 returns-in-Err c =
     let text = refusal_text c.from.result in
-    let short : length text ≤ length c.args.out.now = omega (arith, room c.from.result) in
+    let short : length text ≤ length c.args.out.now = omega (arith, room c.from.result, c.requires) in
     let t = text_turned [] text c.args.out.now tt short _ (sym c.in-Err.ensures.value) in
     absurd (t.1 t.0)

@@ -9,13 +9,12 @@ use Rattle.record.specs.Layouts.{panel_of}
 use Rattle.record.specs.Refusals.{record_lines, record_refusal}
 use Rattle.card_run.proofs.texts.text_for.Goals as goal
 
-pub shared_ref_as_front-result : goal.shared_ref_as_front-result
-shared_ref_as_front-result c =
+pub slice_bounds-result-end : goal.slice_bounds-result-end
+slice_bounds-result-end c =
     let b = c.args.bytes.now in
     let p = panel_of b in
     let h = text_stands (record_lines b) (text_of_card p) c.args.out.now tt c.in-Ok.k (sym c.in-Ok.ensures.value) in
-    let short = card_length p in
-    omega (arith, h.1.0, short)
+    h.1.0 ∙ ap length (sym (ap (take c.in-Ok.k) c.in-Ok.ensures.out_after ∙ h.1.1))
 
 pub returns-in-Ok : goal.returns-in-Ok
 unfolding record_refusal
@@ -31,6 +30,6 @@ returns-in-Err c =
     let b = c.args.bytes.now in
     let p = panel_of b in
     let n = line_number c.in-Err.refusal in
-    let room : length (text_of_card p) ≤ length c.args.out.now = omega (arith, card_length p) in
+    let room : length (text_of_card p) ≤ length c.args.out.now = omega (arith, card_length p, c.requires) in
     let t = text_turned (record_lines b) (text_of_card p) c.args.out.now tt room n (sym c.in-Err.ensures.value) in
     c.refusal_into.ensures ∙ printed_refusal b n t.0 t.1
