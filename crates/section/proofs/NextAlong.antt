@@ -12,7 +12,8 @@ use borrow.Author.Tests.{eq-eqb, ne_eqb}
 use Rattle.panel.specs.Lamellae.{Lamella, lamella, along, thickness}
 use Rattle.std.specs.Prelude.{Some, None, cond, unwrap_or}
 use Rattle.numbers.specs.Choice.{pick}
-use Rattle.section.specs.Carried.{first_along, next_along}
+use Rattle.section.specs.Carried.{first_along}
+use Rattle.section.specs.Carrying.{next_along}
 
 -- the code's answer, and 0 for none, is where the first lamella along begins by the definition
 pub next_is_first : (top : ℕ) (ls : List Lamella) → first_along top ls ≡ unwrap_or (next_along top ls) 0

@@ -1,6 +1,6 @@
 -- Document 02, 4/14: "N, P, Q, lo and hi are carried from one depth to the next by a step that is given them, the lamella being cut and the
 -- next along one, no other." A depth is a tenth of mm past the one before.
-use Rattle.std.specs.Prelude.{ℕ, zero, suc, ◌+◌, ◌-◌, ◌*◌, List, [], ◌∷◌, Bool, true, false, cond, ◌&&◌, eqb, leb, ltb, Option, Some, None}
+use Rattle.std.specs.Prelude.{ℕ, zero, suc, ◌+◌, ◌-◌, ◌*◌, List, [], ◌∷◌, Bool, true, false, ◌&&◌, eqb, leb, ltb}
 use Rattle.numbers.specs.Choice.{pick}
 use Rattle.panel.specs.Lamellae.{Lamella, along}
 use Rattle.section.specs.declared.Section.{Section}
@@ -46,11 +46,6 @@ pick_cut false c d = d
 unfoldable pub first_along : ℕ → List Lamella → ℕ
 first_along top [] = 0
 first_along top (l ∷ ls) = pick (along l) top (first_along (top + l.thickness) ls)
-
--- the same as the code answers it: none where none is along
-unfoldable pub next_along : ℕ → List Lamella → Option ℕ
-next_along top [] = None
-next_along top (l ∷ ls) = cond (along l) (Some top) (next_along (top + l.thickness) ls)
 
 -- the lamella that is cut from a depth on, of lamellae the first of which begins at top, and the next along one; past the last none is cut
 unfoldable pub cut_from : ℕ → ℕ → List Lamella → Cut

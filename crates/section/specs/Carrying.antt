@@ -1,7 +1,7 @@
--- What the functions that carry the section ask for.
-use Rattle.std.specs.Prelude.{ℕ, ◌-◌, ◌*◌, ◌<◌, ◌≤◌, List, [], ◌∷◌}
+-- What the functions that carry the section ask for, and what they hand to each other.
+use Rattle.std.specs.Prelude.{ℕ, ◌+◌, ◌-◌, ◌*◌, ◌<◌, ◌≤◌, List, [], ◌∷◌, Option, Some, None, cond}
 use Rattle.std.specs.Coded.{×_prop, Unit-prop, le_prop}
-use Rattle.panel.specs.Lamellae.{Lamella}
+use Rattle.panel.specs.Lamellae.{Lamella, along}
 use Rattle.section.specs.declared.Section.{Section}
 use Rattle.section.specs.Sections.{least_remainder}
 
@@ -29,3 +29,9 @@ pub record HoldsPart (s : Section) (end : ℕ) : Type 0 where
 
 abbrev pub StepFits : Section → ℕ → Type 0
 StepFits s end = 0 < s.n → s.lo < end → HoldsPart s end
+
+-- where the first lamella along begins, of lamellae the first of which begins at top, if one is along. `first_along` is the same number, with
+-- 0 where none is (`next_is_first` in proofs/)
+unfoldable pub next_along : ℕ → List Lamella → Option ℕ
+next_along top [] = None
+next_along top (l ∷ ls) = cond (along l) (Some top) (next_along (top + l.thickness) ls)

@@ -5,6 +5,7 @@ use Rattle.panel.specs.Lamellae.{lamellae}
 use Rattle.panel.specs.Timber.{factor_of}
 use Rattle.section.specs.declared.Section.{Section}
 use Rattle.section.specs.Sections.{counted, section_of}
+use Rattle.section.specs.Growing.{SumsTo}
 
 -- "e the greater of P − 2N·lo and 2N·hi − P": 2N times the distance of the outermost fibre from the centroid
 abbrev pub edge : Section → ℕ
@@ -39,9 +40,5 @@ pub record SectionFits (p : Panel) : Type 0 where
   pub thickness : Rattle.panel.specs.Lamellae.thickness (lamellae p) ≤ 4000
 
 -- sums over a panel of at most 400.0 mm
-pub record SectionBounds (s : Section) : Type 0 where
-  pub n : s.n ≤ 4000
-  pub p : s.p ≤ 4000 * 4000
-  pub q : s.q ≤ 4000 * 4000 * 4000
-  pub lo : s.lo ≤ 4000
-  pub hi : s.hi ≤ 4000
+abbrev pub SectionBounds : Section → Type 0
+SectionBounds s = SumsTo 4000 s

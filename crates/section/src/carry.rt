@@ -3,8 +3,8 @@ ghost use Rattle.std.specs.Prelude.{◌≡◌, ◌+◌, ◌-◌, ◌*◌, ◌≤
 ghost use Rattle.panel.specs.Lamellae.{thickness};
 ghost use Rattle.panel.specs.Lent.{lamellae_in};
 ghost use Rattle.section.specs.Sections.{counted, section_of};
-ghost use Rattle.section.specs.Carried.{without, step, next_along};
-ghost use Rattle.section.specs.Carrying.{EachThick, EachThick-prop, LamellaeFit, StepFits};
+ghost use Rattle.section.specs.Carried.{without, step};
+ghost use Rattle.section.specs.Carrying.{EachThick, EachThick-prop, LamellaeFit, StepFits, next_along};
 
 use crate::sums::{Part, is_enough, section_in, where_none};
 use crate::{Remaining, Section};

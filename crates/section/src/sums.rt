@@ -103,7 +103,7 @@ impl Sums {
     {
         let from = u64::from(depth).max(self.end);
         let to = self.end + u64::from(thick);
-        if (direction != 1) | !is_enough(from, to) {
+        if direction != 1 || !is_enough(from, to) {
             return Sums {
                 section: self.section,
                 end: to,

@@ -7,7 +7,7 @@ use borrow.Author.Tests.{ltb-true, ltb-false}
 use Rattle.std.proofs.lemmas.Grind.{get_or_default_zero}
 use Rattle.panel.specs.Lamellae.{Lamella, thickness}
 use Rattle.panel.proofs.Used.{length_lamellae_of, get_or_lamellae_of}
-use Rattle.section.specs.Carried.{next_along}
+use Rattle.section.specs.Carrying.{next_along}
 use Rattle.section.proofs.CarriedAlong.{nth, along_which, all_passed, next_ends, next_fits, next_past}
 use Rattle.section.proofs.carry.Carried.begin_next.Goals as goal
 use Rattle.section.proofs.carry.Carried.begin_next.Goals.{After-from}
