@@ -1,4 +1,5 @@
 -- What is read back of a line: the lines after it, the number in its first field, and the one after its colon.
+use Rattle.std.proofs.lemmas.Bool.{or_from}
 use Prim.Native.Nat.{ℕ, zero, suc, ◌+◌, ◌*◌, ◌/◌, ◌%◌, ◌^◌, ◌<◌}
 use mathlib.Core.Path.{◌≡◌, refl, sym, ap, ◌∙◌}
 use mathlib.Core.Bool.{Bool, true, false}
@@ -8,13 +9,13 @@ use native.Mathlib.Nat.{div-add-mod}
 use borrow.Author.Tests.{le-ltb, ne_eqb, eq-eqb}
 use lib.Dec.{eqb}
 use Rattle.numbers.specs.Choice.{outside}
-use Rattle.numbers.proofs.Booleans.{none_or, not_both}
+use Rattle.numbers.proofs.Booleans.{not_both}
 use Rattle.card_text.specs.Text.{digits, decimal, two_digits, text_fields, text_line, time_line, after, number_from, first_number, number_after_colon, free, no_digit}
 use Rattle.card_text.proofs.Digits.{by_size, tenth_below}
 
 -- a digit is a byte from 48 to 57
 digit_inside : (d : ℕ) → d < 10 → outside 48 57 (48 + d) ≡ false
-digit_inside d h = none_or _ _ (le-ltb (48 + d) 48 (omega arith)) (le-ltb 57 (48 + d) (omega arith))
+digit_inside d h = or_from _ _ (le-ltb (48 + d) 48 (omega arith)) (le-ltb 57 (48 + d) (omega arith))
 
 -- What follows a mark
 

@@ -1,4 +1,5 @@
 -- What holds of a panel that no line turns back, as inequalities: the limits that later calls work within.
+use Rattle.std.proofs.lemmas.Bool.{or_parts}
 use Prim.Native.Nat.{ℕ, zero, suc, ◌*◌, ◌<◌, ◌≤◌}
 use mathlib.Core.Path.{◌≡◌, refl, sym, ap, subst, ◌∙◌}
 use mathlib.Core.List.{List, [], ◌∷◌}
@@ -10,7 +11,7 @@ use lib.Dec.{ltb, eqb}
 use mathlib.Core.Logic.{◌↔◌}
 use native.Mathlib.Nat.{le_trans, le-add_right}
 use Rattle.numbers.specs.Choice.{pick, outside}
-use Rattle.numbers.proofs.Booleans.{not_both, or_none, in_range}
+use Rattle.numbers.proofs.Booleans.{not_both, in_range}
 use Rattle.panel.specs.declared.Board.{Board}
 use Rattle.panel.specs.declared.Cladding.{Cladding}
 use Rattle.panel.specs.declared.Cladding.TheVariants.{Unclad, One, Two}
@@ -33,13 +34,13 @@ use Rattle.limits.proofs.FirstLine.{accepted_iff, refusal_first, cause_none, ope
 -- what lines 5, 10 and 11 leave: the section test fits its numbers
 pub section_fits : (p : Panel) → bad_load p ≡ false → bad_count p.count ≡ false → bad_lamellae p ≡ false → SectionFits p
 section_fits p five ten eleven =
-    let load = or_none (outside 1 400 p.strength) (ltb 1000000 p.moment) five in
+    let load = or_parts (outside 1 400 p.strength) (ltb 1000000 p.moment) five in
     record {
       strength = (in_range 1 400 p.strength load.0).1;
       moment = ltb-false 1000000 p.moment load.1;
       count = (in_range 1 9 p.count ten).1;
       thickness =
-          ltb-false 4000 (thickness (lamellae p)) (or_none (some bad_lamella (lamellae p)) (ltb 4000 (thickness (lamellae p))) eleven).1;
+          ltb-false 4000 (thickness (lamellae p)) (or_parts (some bad_lamella (lamellae p)) (ltb 4000 (thickness (lamellae p))) eleven).1;
     }
 
 -- Accepted panels
@@ -70,12 +71,12 @@ types_keep (One b) e = tt
 types_keep (Two outer inner) e =
     let types =
     not (known outer) || not (known inner) || (is_f outer && not (is_f inner)) || (not (is_f outer) && is_f inner) in
-    let first = or_none (types || wood_based outer) (wood_based inner) e in
-    ((or_none types (wood_based outer) first.0).1, first.1)
+    let first = or_parts (types || wood_based outer) (wood_based inner) e in
+    ((or_parts types (wood_based outer) first.0).1, first.1)
 
 board_keeps : (b : Board) → bad_board b ≡ false → BoardKeeps b
 board_keeps b e =
-    let both = or_none (bad_thickness (material_of b.kind) b.thickness) (outside 1 whole_joint b.joint) e in
+    let both = or_parts (bad_thickness (material_of b.kind) b.thickness) (outside 1 whole_joint b.joint) e in
     let joint = in_range 1 whole_joint b.joint both.1 in
     record {
       thickness = thickness_keeps (material_of b.kind) b.thickness both.0;
@@ -87,14 +88,14 @@ cladding_keeps : (c : Cladding) → bad_boards c ≡ false → CladdingKeeps c
 cladding_keeps Unclad e = tt
 cladding_keeps (One b) e = board_keeps b e
 cladding_keeps (Two outer inner) e =
-    let both = or_none (bad_board outer) (bad_board inner) e in
+    let both = or_parts (bad_board outer) (bad_board inner) e in
     (board_keeps outer both.0, board_keeps inner both.1)
 
 given_keeps :
     (f : Bool) (start given : ℕ) → ((f && outside start 360000 given) || (not f && not (eqb given 0))) ≡ false
     → (f ≡ true → (start ≤ given) × (given ≤ 360000)) × (f ≡ false → given ≡ 0)
 given_keeps true start given e =
-    (λ _. in_range start 360000 given (or_none (outside start 360000 given) false e).0, λ f. absurd (not_both true refl f))
+    (λ _. in_range start 360000 given (or_parts (outside start 360000 given) false e).0, λ f. absurd (not_both true refl f))
 given_keeps false start given e =
     (λ f. absurd (not_both false f refl), λ _. eqb-true given 0 (not-false (eqb given 0) e))
 
@@ -102,8 +103,8 @@ lamellae_keep : (ls : List Lamella) → some bad_lamella ls ≡ false → Lamell
 unfolding some
 lamellae_keep [] e = tt
 lamellae_keep (l ∷ ls) e =
-    let both = or_none (bad_lamella l) (some bad_lamella ls) e in
-    let one = or_none (ltb 1 l.direction) (bad_thickness Wood l.thickness) both.0 in (
+    let both = or_parts (bad_lamella l) (some bad_lamella ls) e in
+    let one = or_parts (ltb 1 l.direction) (bad_thickness Wood l.thickness) both.0 in (
       record { direction = ltb-false 1 l.direction one.0; thickness = thickness_keeps Wood l.thickness one.1 },
       lamellae_keep ls both.1,
     )
@@ -114,12 +115,12 @@ unfolding refusal_to12
 to12_keeps p e =
     let none = cause_none (down_to 12 (panel_lines p)) tt e in
     let version = in_range 1 2 p.version (none 2) in
-    let sixteen = or_none (ltb 2 p.face) (eqb p.version 1 && not (eqb p.face 0)) (none 16) in
-    let three = or_none (ltb 1 p.bond) (ltb 1 p.gap) (none 3) in
+    let sixteen = or_parts (ltb 2 p.face) (eqb p.version 1 && not (eqb p.face 0)) (none 16) in
+    let three = or_parts (ltb 1 p.bond) (ltb 1 p.gap) (none 3) in
     let rate = in_range 50 100 p.rate (none 4) in
-    let load = or_none (outside 1 400 p.strength) (ltb 1000000 p.moment) (none 5) in
+    let load = or_parts (outside 1 400 p.strength) (ltb 1000000 p.moment) (none 5) in
     let time = given_keeps (type_f p.cladding) (charring_start p.gap p.cladding) p.failure_time (none 9) in
-    let thick = or_none (some bad_lamella (lamellae p)) (ltb 4000 (thickness (lamellae p))) (none 11) in
+    let thick = or_parts (some bad_lamella (lamellae p)) (ltb 4000 (thickness (lamellae p))) (none 11) in
     record {
       version_least = version.0;
       version_most = version.1;
@@ -165,7 +166,7 @@ pub table_accepted : (f : ByteFaults) (p : Panel) → refusal (table_lines f p) 
 unfolding panel_refusal
 table_accepted f p e =
     let none = cause_none (table_lines f p) tt e in
-    let ten = or_none f.lamella_count (bad_count p.count) (none 10) in
+    let ten = or_parts f.lamella_count (bad_count p.count) (none 10) in
     let same : no_bytes ≡ f = sym (λ i. record { length = none 1 i; board_count = none 6 i; lamella_count = ten.0 i }) in
     ap (λ (g : ByteFaults). refusal (table_lines g p)) same ∙ e
 

@@ -1,31 +1,19 @@
 -- More exposure never enlarges the remaining section, whatever the panel and the two times.
-use Prim.Native.Nat.{ℕ, ◌+◌, ◌-◌, ◌*◌, ◌≤◌, ◌<◌, max}
+use Prim.Native.Nat.{ℕ, ◌+◌, ◌*◌, ◌≤◌, ◌<◌}
 use mathlib.Core.Path.{◌≡◌, refl}
-use mathlib.Core.Bool.{Bool, true, false, ◌&&◌}
+use mathlib.Core.Bool.{Bool, true, false}
 use mathlib.Core.List.{List, [], ◌∷◌}
 use mathlib.Core.Logic.{inl, inr}
 use native.Mathlib.Omega.{arith}
 use native.Mathlib.Nat.{le_refl}
-use borrow.Author.Tests.{leb-true, le-leb}
-use lib.Dec.{leb}
 use Rattle.numbers.proofs.Booleans.{not_both}
 use Rattle.panel.specs.declared.Panel.{Panel}
-use Rattle.panel.specs.Lamellae.{Lamella, along, lamellae}
-use Rattle.section.specs.Sections.{Part, least_remainder, rest, counts, keep_if, counted_from}
+use Rattle.panel.specs.Lamellae.{Lamella, lamellae}
+use Rattle.section.proofs.Shrinking.{counts_shallower}
+use Rattle.section.specs.Sections.{Part, rest, counts, keep_if, counted_from}
 use Rattle.charring.specs.Depths.{tenths_at}
 use Rattle.charring.proofs.DepthLaws.{effective_no_less, tenths_later}
 use Rattle.load.specs.Exposure.{InsideOne, EachInsideOne, NotEnlarged}
-
--- what counts deeper down counts higher up
-counts_higher : (depth deeper top : ℕ) (l : Lamella) → depth ≤ deeper → counts deeper top l ≡ true → counts depth top l ≡ true
-counts_higher depth deeper top l h e = go (along l) e
-  where
-    go : (a : Bool) → (a && leb least_remainder (top + l.thickness - max deeper top)) ≡ true
-        → (a && leb least_remainder (top + l.thickness - max depth top)) ≡ true
-    go true e =
-        let k = leb-true least_remainder (top + l.thickness - max deeper top) e in
-        le-leb least_remainder (top + l.thickness - max depth top) (omega arith)
-    go false e = e
 
 -- more parts to lie inside
 inside_more : (b : Bool) (x y : Part) (ys : List Part) → InsideOne x ys → InsideOne x (keep_if b y ys)
@@ -58,7 +46,7 @@ parts_inside depth deeper top (l ∷ ls) h = go (counts deeper top l) refl (part
         → counts deeper top l ≡ b
         → EachInsideOne xs ys
         → EachInsideOne (keep_if b (rest deeper top l) xs) (keep_if (counts depth top l) (rest depth top l) ys)
-    go true e k = first (counts depth top l) (counts_higher depth deeper top l h e) k
+    go true e k = first (counts depth top l) (counts_shallower depth deeper top l h e) k
     go false e k = each_more (counts depth top l) xs (rest depth top l) ys k
 
 pub not_enlarged : (p : Panel) (n q r s : ℕ) → 0 < q → 0 < s → n * s ≤ r * q → NotEnlarged p n q r s

@@ -1,4 +1,5 @@
 -- The last depth to which a panel passes: where a search may stop, and that it decides for every time.
+use Rattle.std.proofs.lemmas.Bool.{false_from_ne_true}
 use Prim.Native.Nat.{ℕ, ◌+◌, ◌≤◌, ◌<◌}
 use mathlib.Core.Path.{◌≡◌, sym, ◌∙◌}
 use mathlib.Core.Bool.{true, false}
@@ -16,7 +17,7 @@ use Rattle.charring.proofs.DepthBounds.{tenths_within}
 use Rattle.load.specs.Failure.{EveryTenthPasses}
 use Rattle.load.specs.LoadMinute.{every_from, time_test}
 use Rattle.load.specs.LastPassing.{last_passing}
-use Rattle.load.proofs.LoadMinutes.{every_tenth, not_true_false}
+use Rattle.load.proofs.LoadMinutes.{every_tenth}
 
 -- every depth to it passes where depth 0 does
 last_passes : (p : Panel) → depth_passes p 0 ≡ true → EveryTenthPasses (depth_passes p) (last_passing p)
@@ -33,7 +34,7 @@ last_found p v most all next =
     largest_last (λ (depth : ℕ). every_from (depth_passes p) 0 depth) (thickness (lamellae p)) v most
     ((every_tenth (depth_passes p) v).1 all)
     (λ m above within.
-    not_true_false (every_from (depth_passes p) 0 m)
+    false_from_ne_true (every_from (depth_passes p) 0 m)
     (λ e. not_both (depth_passes p (v + 1)) ((every_tenth (depth_passes p) m).0 e (v + 1) (omega arith)) (next (omega arith))))
 
 -- and no deeper depth is
@@ -51,5 +52,5 @@ time_by_depth p n q h e = go (dec_le (tenths_at p n q) (last_passing p))
         (every_tenth (depth_passes p) (tenths_at p n q)).1 (λ depth u. last_passes p e depth (omega arith))
         ∙ sym (le-leb (tenths_at p n q) (last_passing p) l)
     go (no l) =
-        not_true_false (time_test p n q) (λ t. l (last_deepest p (tenths_at p n q) (tenths_within p n q h) t))
+        false_from_ne_true (time_test p n q) (λ t. l (last_deepest p (tenths_at p n q) (tenths_within p n q h) t))
         ∙ sym (lt-leb (tenths_at p n q) (last_passing p) (omega arith))

@@ -1,4 +1,5 @@
 -- Passing through a minute: of an accepted panel it says whether R is at least the minute, and of any panel that depth 0 passes.
+use Rattle.std.proofs.lemmas.Bool.{false_from_ne_true}
 use Prim.Native.Nat.{ℕ, zero, suc, ◌≤◌, min}
 use mathlib.Core.Path.{◌≡◌, refl, sym, ap₂, ◌∙◌}
 use mathlib.Core.Bool.{Bool, true, ◌&&◌}
@@ -18,7 +19,7 @@ use Rattle.charring.specs.Depths.{tenths_at}
 use Rattle.load.specs.Failure.{TimePasses}
 use Rattle.load.specs.LoadMinute.{time_test, load_minute, printed_load}
 use Rattle.load.specs.Lasting.{lasts}
-use Rattle.load.proofs.LoadMinutes.{every_tenth, not_true_false, test_says, accepted_load_minute}
+use Rattle.load.proofs.LoadMinutes.{every_tenth, test_says, accepted_load_minute}
 use Rattle.load.proofs.WholeParts.{earlier_not_above}
 
 -- a number is at most the lesser of two where it is at most each
@@ -40,7 +41,7 @@ fire_by_minute p minute e h = go (dec_le minute (load_minute p))
         (earlier_not_above (TimePasses p) 1 minute (load_minute p) l (accepted_load_minute p e).not_above)
         ∙ sym (le-leb minute (load_minute p) l)
     go (no l) =
-        not_true_false (time_test p minute 1)
+        false_from_ne_true (time_test p minute 1)
         (λ t. l ((accepted_load_minute p e).greatest minute h ((test_says p minute 1 (omega arith)).0 t)))
         ∙ sym (lt-leb minute (load_minute p) (omega arith))
 

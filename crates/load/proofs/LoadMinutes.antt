@@ -1,8 +1,9 @@
 -- R, and the same in seconds: the test says that every time up to a time passes, what it gives is the failure time's whole part, and a search
 -- may stop at the last time that passes the test. The arguments hold for any test of depths, any depths that do not fall with time, and any
 -- part of a minute.
+use Rattle.std.proofs.lemmas.Bool.{false_from_ne_true}
 use Prim.Native.Nat.{ℕ, zero, suc, ◌+◌, ◌*◌, ◌≤◌, ◌<◌}
-use mathlib.Core.Path.{◌≡◌, refl, sym, ap, ◌∙◌}
+use mathlib.Core.Path.{◌≡◌, sym, ap, ◌∙◌}
 use mathlib.Core.Bool.{Bool, true, false, ◌&&◌}
 use mathlib.Core.Logic.{◌↔◌, ⊎_elim}
 use native.Mathlib.Omega.{arith}
@@ -51,11 +52,6 @@ every_tenth passes deepest =
     let s = every_from_lem passes 0 deepest in
     (λ e d u. s.0 e d (omega arith) (omega arith), λ h. s.1 (λ d l u. h d (omega arith)))
 
--- what is not true is false
-pub not_true_false : (b : Bool) → (b ≡ true → ⊥) → b ≡ false
-not_true_false true ne = absurd (ne refl)
-not_true_false false ne = refl
-
 -- Times
 
 -- a test of depths and a depth for each time give a test of times
@@ -89,7 +85,7 @@ pub whole_last :
 unfolding whole_part
 whole_last test unit down v h kept next =
     largest_last (λ (m : ℕ). test m unit) (360 * unit) v h kept
-    (λ m l u. not_true_false (test m unit) (λ e. not_both (test (suc v) unit) (down (suc v) m l e) (next (omega arith))))
+    (λ m l u. false_from_ne_true (test m unit) (λ e. not_both (test (suc v) unit) (down (suc v) m l e) (next (omega arith))))
 
 pub whole_most : (test : ℕ → ℕ → Bool) (unit : ℕ) → whole_part test unit ≤ 360 * unit
 unfolding whole_part

@@ -1,6 +1,7 @@
 -- Tests joined by "and" and "or", and the range test.
+use Rattle.std.proofs.lemmas.Bool.{or_parts}
 use Prim.Native.Nat.{ℕ, ◌≤◌}
-use mathlib.Core.Path.{◌≡◌, refl, ap₂}
+use mathlib.Core.Path.{◌≡◌, refl}
 use mathlib.Core.Bool.{Bool, true, false, not, ◌&&◌, ◌||◌}
 use native.Mathlib.Omega.{arith}
 use borrow.Author.Tests.{ltb-false}
@@ -31,13 +32,6 @@ not_both a e f = let z : ◌≡◌ {A = ℕ} 0 1 = cc in omega arith
 
 -- "or"
 
-pub or_none : (a b : Bool) → (a || b) ≡ false → (a ≡ false) × (b ≡ false)
-or_none true b e = absurd (not_both true refl e)
-or_none false b e = (refl, e)
-
-pub none_or : (a b : Bool) → a ≡ false → b ≡ false → (a || b) ≡ false
-none_or a b e f = ap₂ (λ (x y : Bool). x || y) e f
-
 pub or_assoc : (a b c : Bool) → (a || (b || c)) ≡ ((a || b) || c)
 or_assoc true b c = refl
 or_assoc false b c = refl
@@ -59,5 +53,5 @@ and_assoc false b c = refl
 -- what is not outside a range is within it
 pub in_range : (least greatest x : ℕ) → outside least greatest x ≡ false → (least ≤ x) × (x ≤ greatest)
 in_range least greatest x e =
-    let h = or_none (ltb x least) (ltb greatest x) e in
+    let h = or_parts (ltb x least) (ltb greatest x) e in
     (ltb-false x least h.0, ltb-false greatest x h.1)

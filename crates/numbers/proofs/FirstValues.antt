@@ -1,7 +1,7 @@
 -- Laws of `firsts`.
-use Prim.Native.Nat.{ℕ, zero, suc, ◌+◌, ◌-◌, ◌<◌}
-use mathlib.Core.Path.{◌≡◌, refl, sym, ap, ap₂, ◌∙◌}
-use mathlib.Core.List.{List, [], ◌∷◌, ◌++◌, reverse, reverse-append}
+use Prim.Native.Nat.{ℕ, zero, suc, ◌+◌, ◌<◌}
+use mathlib.Core.Path.{◌≡◌, refl, ap, ap₂, ◌∙◌}
+use mathlib.Core.List.{List, [], ◌∷◌, ◌++◌}
 use native.Mathlib.Omega.{arith}
 use native.Mathlib.Numerals.{add-one}
 use native.Mathlib.Decide.{dec_lt}
@@ -42,21 +42,3 @@ module _ {A : Type 0} where
       (λ i h.
       let k : i < length l = omega (arith, length_firsts f (length l)) in
       get_or_firsts f (length l) i d k ∙ e i k)
-
-  -- the first value, then those that follow
-  firsts_cons : (f : ℕ → A) (n : ℕ) → firsts f (suc n) ≡ f 0 ∷ firsts (λ (i : ℕ). f (suc i)) n
-  unfolding firsts
-  firsts_cons f zero = refl
-  firsts_cons f (suc n) = ap (λ (xs : List A). xs ++ (f (suc n) ∷ [])) (firsts_cons f n)
-
-  -- reversed they are the values from the last down
-  pub reverse_firsts : (f : ℕ → A) (n : ℕ) → reverse (firsts f n) ≡ firsts (λ (i : ℕ). f (n - suc i)) n
-  unfolding firsts
-  reverse_firsts f zero = refl
-  reverse_firsts f (suc n) =
-      reverse-append (firsts f n) (f n ∷ [])
-      ∙ ap₂ (λ (k : ℕ) (xs : List A). f k ∷ xs) (let e : n ≡ suc n - 1 = omega arith in e)
-      (reverse_firsts f n
-      ∙ firsts_agree (λ (i : ℕ). f (n - suc i)) (λ (i : ℕ). f (suc n - suc (suc i))) n
-      (λ i h. ap f (let e : n - suc i ≡ suc n - suc (suc i) = omega arith in e)))
-      ∙ sym (firsts_cons (λ (i : ℕ). f (suc n - suc i)) n)

@@ -1,26 +1,15 @@
 -- Parts of a list from a place on, and stores that follow each other.
-use Prim.Native.Nat.{ℕ, zero, suc, ◌+◌, ◌-◌, ◌≤◌, min}
+use Prim.Native.Nat.{ℕ, suc, ◌+◌, ◌-◌, ◌≤◌}
 use mathlib.Core.Path.{◌≡◌, refl, sym, ap, ap₂, ◌∙◌}
 use mathlib.Core.List.{List, [], ◌∷◌, ◌++◌, append-nil, append_assoc}
 use native.Mathlib.Omega.{arith}
 use native.Mathlib.Nat.{add-zero, zero-add, add-suc, suc-add}
 use lib.ListN.{length, take, drop, set, length-drop}
-use lib.Seq.{drop-nil, drop-drop, drop-length, take_all, sets, sets-eq}
+use lib.Seq.{drop-drop, drop-length, take_all, sets, sets-eq}
 
 -- the part from a on, as a slice is taken, is what drop leaves
 pub part_to_end : (l : List ℕ) (a : ℕ) → take (length l - a) (drop a l) ≡ drop a l
 part_to_end l a = take_all (length l - a) (drop a l) (simp length-drop (omega arith))
-
--- a start past the end may be brought back to the end
-pub drop_min : (l : List ℕ) (a : ℕ) → drop (min a (length l)) l ≡ drop a l
-drop_min [] zero = drop-nil (min 0 0)
-drop_min [] (suc a) = drop-nil (min (suc a) 0)
-drop_min (x ∷ l) zero =
-    let e : min 0 (suc (length l)) ≡ 0 = omega arith in
-    rw e
-drop_min (x ∷ l) (suc a) =
-    let e : min (suc a) (suc (length l)) ≡ suc (min a (length l)) = omega arith in
-    rw e (drop_min l a)
 
 -- stores that begin where others end are one run of stores
 pub sets_then : (l : List ℕ) (i : ℕ) (vs : List ℕ) (j : ℕ) (ws : List ℕ) → j ≡ i + length vs → sets (sets l i vs) j ws ≡ sets l i (vs ++ ws)

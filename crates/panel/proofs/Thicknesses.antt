@@ -1,9 +1,9 @@
 -- Laws of materials: boards of no wood-based type are gypsum, and no layer is thinner than 9.0 mm or thicker than 60.0.
+use Rattle.std.proofs.lemmas.Bool.{or_parts}
 use Prim.Native.Nat.{◌≤◌}
 use mathlib.Core.Path.{◌≡◌, subst}
 use mathlib.Core.Bool.{Bool, false}
 use lib.Dec.{T, eqb, leb, leb→le}
-use Rattle.numbers.proofs.Booleans.{or_none}
 use Rattle.numbers.proofs.EveryCase.{every_case, every_case_lem}
 use Rattle.panel.specs.declared.Board.{Board}
 use Rattle.panel.specs.declared.Material.{Material}
@@ -15,7 +15,7 @@ use Rattle.panel.specs.Boards.{letter_o, letter_p, wood_based, material_of}
 pub gypsum_else : (b : Board) → wood_based b ≡ false → material_of b.kind ≡ Gypsum
 unfolding material_of
 gypsum_else b e =
-    let both = or_none (eqb b.kind letter_o) (eqb b.kind letter_p) e in
+    let both = or_parts (eqb b.kind letter_o) (eqb b.kind letter_p) e in
     rw (material_of, both.0, both.1)
 
 -- what is tested of each material holds of every one

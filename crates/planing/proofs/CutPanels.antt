@@ -1,4 +1,5 @@
 -- A cut panel: an allowed cut of an accepted panel meets no line but 13.
+use Rattle.std.proofs.lemmas.Bool.{or_parts, or_from}
 use Prim.Native.Nat.{◌+◌, ◌≤◌, ◌<◌}
 use mathlib.Core.Path.{◌≡◌, refl, ap, ◌∙◌}
 use mathlib.Core.List.{List}
@@ -8,7 +9,7 @@ use native.Mathlib.Omega.{arith}
 use borrow.Author.Tests.{leb-true, ltb-true, ltb-false, le-ltb}
 use lib.Dec.{leb, ltb}
 use Rattle.numbers.specs.Choice.{pick}
-use Rattle.numbers.proofs.Booleans.{and_left, and_right, or_none, none_or}
+use Rattle.numbers.proofs.Booleans.{and_left, and_right}
 use Rattle.panel.specs.declared.Panel.{Panel}
 use Rattle.panel.specs.Lamellae.{Lamella, lamellae, along, thickness}
 use Rattle.panel.proofs.Used.{lamellae_with, length_lamellae_of}
@@ -43,11 +44,11 @@ cut_lamellae p c = lamellae_with p (thinned c.place c.tenths (lamellae p))
 -- line 11
 cut_good : (p : Panel) (c : Cut) → bad_lamellae p ≡ false → Allowed p c → bad_lamellae (cut_panel p c) ≡ false
 cut_good p c e a =
-    let both = or_none (some bad_lamella (lamellae p)) (ltb 4000 (thickness (lamellae p))) e in
+    let both = or_parts (some bad_lamella (lamellae p)) (ltb 4000 (thickness (lamellae p))) e in
     let less = thinned_thickness c.place c.tenths (lamellae p) in
     let most = ltb-false 4000 (thickness (lamellae p)) both.1 in
     rw (cut_lamellae p c)
-    (none_or (some bad_lamella (thinned c.place c.tenths (lamellae p))) (ltb 4000 (thickness (thinned c.place c.tenths (lamellae p))))
+    (or_from (some bad_lamella (thinned c.place c.tenths (lamellae p))) (ltb 4000 (thickness (thinned c.place c.tenths (lamellae p))))
     (thinned_good c.place c.tenths (lamellae p) a.kept both.0)
     (le-ltb 4000 (thickness (thinned c.place c.tenths (lamellae p))) (omega arith)))
 
@@ -81,6 +82,6 @@ allowed_within p c e a =
     let h = allowed_means p c a in
     let kept = h.kept in
     let place = place_within c.place (lamellae p) (omega arith) in
-    let good = (or_none (some bad_lamella (lamellae p)) (ltb 4000 (thickness (lamellae p))) (accepted_cause p e 11)).0 in
+    let good = (or_parts (some bad_lamella (lamellae p)) (ltb 4000 (thickness (lamellae p))) (accepted_cause p e 11)).0 in
     let most = thickness_most c.place (lamellae p) good in
     (place.0, (omega (arith, place.1, length_lamellae_of p.directions p.thicknesses p.count), omega arith))

@@ -1,4 +1,5 @@
 -- Lamellae one of which is thinner: as many, no thicker in all, along where they were, and each kept within line 11's limits.
+use Rattle.std.proofs.lemmas.Bool.{or_parts, or_from}
 use Prim.Native.Nat.{ℕ, zero, suc, ◌+◌, ◌-◌, ◌≤◌, ◌<◌}
 use mathlib.Core.Path.{◌≡◌, refl, ap}
 use mathlib.Core.List.{List, [], ◌∷◌}
@@ -7,7 +8,7 @@ use native.Mathlib.Omega.{arith}
 use borrow.Author.Tests.{le-ltb}
 use lib.Dec.{ltb}
 use lib.ListN.{length, get_or}
-use Rattle.numbers.proofs.Booleans.{or_none, none_or, in_range}
+use Rattle.numbers.proofs.Booleans.{in_range}
 use Rattle.panel.specs.Lamellae.{Lamella, lamella, along, thickness}
 use Rattle.panel.specs.declared.Material.TheVariants.{Wood}
 use Rattle.panel.specs.Materials.{bad_thickness}
@@ -39,7 +40,7 @@ thinned_along (suc (suc place)) tenths (l ∷ ls) = ap (λ (b : Bool). along l |
 kept_within : (h tenths : ℕ) → least_kept + tenths ≤ h → bad_thickness Wood h ≡ false → bad_thickness Wood (h - tenths) ≡ false
 kept_within h tenths kept e =
     let within = in_range 100 600 h e in
-    none_or (ltb (h - tenths) 100) (ltb 600 (h - tenths)) (le-ltb (h - tenths) 100 (omega arith)) (le-ltb 600 (h - tenths) (omega arith))
+    or_from (ltb (h - tenths) 100) (ltb 600 (h - tenths)) (le-ltb (h - tenths) 100 (omega arith)) (le-ltb 600 (h - tenths) (omega arith))
 
 pub thinned_good :
     (place tenths : ℕ) (ls : List Lamella) → least_kept + tenths ≤ thickness_at place ls → some bad_lamella ls ≡ false
@@ -48,13 +49,13 @@ unfolding thinned thickness_at some
 thinned_good place tenths [] kept e = refl
 thinned_good zero tenths (l ∷ ls) kept e = e
 thinned_good (suc zero) tenths (l ∷ ls) kept e =
-    let both = or_none (bad_lamella l) (some bad_lamella ls) e in
-    let one = or_none (ltb 1 l.direction) (bad_thickness Wood l.thickness) both.0 in
-    none_or (bad_lamella (lamella l.direction (l.thickness - tenths))) (some bad_lamella ls)
-    (none_or (ltb 1 l.direction) (bad_thickness Wood (l.thickness - tenths)) one.0 (kept_within l.thickness tenths kept one.1)) both.1
+    let both = or_parts (bad_lamella l) (some bad_lamella ls) e in
+    let one = or_parts (ltb 1 l.direction) (bad_thickness Wood l.thickness) both.0 in
+    or_from (bad_lamella (lamella l.direction (l.thickness - tenths))) (some bad_lamella ls)
+    (or_from (ltb 1 l.direction) (bad_thickness Wood (l.thickness - tenths)) one.0 (kept_within l.thickness tenths kept one.1)) both.1
 thinned_good (suc (suc place)) tenths (l ∷ ls) kept e =
-    let both = or_none (bad_lamella l) (some bad_lamella ls) e in
-    none_or (bad_lamella l) (some bad_lamella (thinned (suc place) tenths ls)) both.0 (thinned_good (suc place) tenths ls kept both.1)
+    let both = or_parts (bad_lamella l) (some bad_lamella ls) e in
+    or_from (bad_lamella l) (some bad_lamella (thinned (suc place) tenths ls)) both.0 (thinned_good (suc place) tenths ls kept both.1)
 
 -- By places, as arrays have them: place at + 1 is that of index `at`
 
@@ -80,9 +81,9 @@ unfolding thickness_at some
 thickness_most place [] e = omega arith
 thickness_most zero (l ∷ ls) e = omega arith
 thickness_most (suc zero) (l ∷ ls) e =
-    let one = or_none (ltb 1 l.direction) (bad_thickness Wood l.thickness) (or_none (bad_lamella l) (some bad_lamella ls) e).0 in
+    let one = or_parts (ltb 1 l.direction) (bad_thickness Wood l.thickness) (or_parts (bad_lamella l) (some bad_lamella ls) e).0 in
     (in_range 100 600 l.thickness one.1).1
-thickness_most (suc (suc place)) (l ∷ ls) e = thickness_most (suc place) ls (or_none (bad_lamella l) (some bad_lamella ls) e).1
+thickness_most (suc (suc place)) (l ∷ ls) e = thickness_most (suc place) ls (or_parts (bad_lamella l) (some bad_lamella ls) e).1
 
 -- at the place itself the lamella is thinner, elsewhere it is the same
 pub thinned_here :

@@ -1,4 +1,5 @@
 -- The record of an accepted panel is accepted.
+use Rattle.std.proofs.lemmas.Bool.{or_from}
 use Prim.Native.Nat.{ℕ, ◌≤◌}
 use mathlib.Core.List.{List}
 use mathlib.Core.Path.{◌≡◌, sym, ap, ap₂, ◌∙◌}
@@ -16,7 +17,7 @@ use Rattle.panel.proofs.Used.{cleared_same}
 use Rattle.limits.specs.Lines.{refusal}
 use Rattle.limits.specs.declared.ByteFaults.{ByteFaults}
 use Rattle.limits.specs.Refusals.{no_bytes, table_lines, panel_refusal}
-use Rattle.numbers.proofs.Booleans.{in_range, none_or}
+use Rattle.numbers.proofs.Booleans.{in_range}
 use Rattle.limits.proofs.Accepted.{accepted_cause, accepted_keeps}
 use Rattle.limits.proofs.Unused.{refusal_unused}
 use Rattle.panel.specs.Boards.{boards_of}
@@ -41,8 +42,8 @@ module _ (p : Panel) (least : 1 ≤ p.count) (most : p.count ≤ 9) where
       let front = front_within p.version in
       let low : shortest ≤ n = omega (arith, length_encode p) in
       let high : n ≤ longest = omega (arith, length_encode p) in
-      none_or (outside shortest longest n) (not (eqb said n))
-      (none_or (ltb n shortest) (ltb longest n) (le-ltb n shortest low) (le-ltb longest n high))
+      or_from (outside shortest longest n) (not (eqb said n))
+      (or_from (ltb n shortest) (ltb longest n) (le-ltb n shortest low) (le-ltb longest n high))
       (ap not (eq-eqb said n (ap (λ (vs : List ℕ). get_or vs 0 0) (front_there p) ∙ sym (length_encode p))))
 
   line_six : bad_board_count (encode p) ≡ false
@@ -51,7 +52,7 @@ module _ (p : Panel) (least : 1 ≤ p.count) (most : p.count ≤ 9) where
       let boards : c ≤ 2 = rw (board_count_there p) (at_most_two p.cladding) in
       let same : length_with (version_of (encode p)) c 1 ≡ length_with p.version (length (boards_of p.cladding)) 1 =
       λ i. length_with (version_there p i) (board_count_there p i) 1 in
-      none_or (ltb 2 c) (ltb (length (encode p)) (length_with (version_of (encode p)) c 1)) (le-ltb 2 c boards)
+      or_from (ltb 2 c) (ltb (length (encode p)) (length_with (version_of (encode p)) c 1)) (le-ltb 2 c boards)
       (le-ltb (length (encode p)) (length_with (version_of (encode p)) c 1) (omega (arith, same, length_encode p)))
 
   line_ten : bad_whole (encode p) ≡ false

@@ -1,4 +1,5 @@
 -- What an accepted record's lines say of its bytes.
+use Rattle.std.proofs.lemmas.Bool.{or_parts}
 use Prim.Native.Nat.{ℕ, zero, suc, ◌≤◌, ◌<◌, min}
 use mathlib.Core.Path.{◌≡◌, refl, sym, ap, ◌∙◌}
 use mathlib.Core.List.{List, [], ◌∷◌}
@@ -17,7 +18,7 @@ use Rattle.limits.specs.Causes.{bad_count}
 use Rattle.limits.specs.Refusals.{panel_refusal}
 use Rattle.limits.proofs.FirstLine.{accepted_iff, refusal_first, cause_none}
 use Rattle.limits.proofs.Accepted.{table_accepted}
-use Rattle.numbers.proofs.Booleans.{or_none, in_range}
+use Rattle.numbers.proofs.Booleans.{in_range}
 use Rattle.panel.specs.Boards.{boards_of}
 use Rattle.record.specs.Layouts.{
   only_if,
@@ -80,9 +81,9 @@ accepted_sound b e =
     let said : ℕ = get_or (front_of b) 0 0 in
     let version = version_of b in
     let whole : ℕ = length_with version (count_of_boards b) (count_of_lamellae b) in
-    let one = or_none (outside shortest longest (length b)) (not (eqb said (length b))) (none 1) in
-    let six = or_none (ltb 2 (count_of_boards b)) (ltb (length b) (length_with version (count_of_boards b) 1)) (none 6) in
-    let ten = or_none (bad_whole b) (bad_count (count_of_lamellae b)) (none 10) in
+    let one = or_parts (outside shortest longest (length b)) (not (eqb said (length b))) (none 1) in
+    let six = or_parts (ltb 2 (count_of_boards b)) (ltb (length b) (length_with version (count_of_boards b) 1)) (none 6) in
+    let ten = or_parts (bad_whole b) (bad_count (count_of_lamellae b)) (none 10) in
     let same : length b ≡ whole = eqb-true (length b) whole (not-false (eqb (length b) whole) ten.0) in
     let boards : count_of_boards b ≤ 2 = ltb-false 2 (count_of_boards b) six.0 in
     let length-said : record_length (panel_of b) ≡ said =

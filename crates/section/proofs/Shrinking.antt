@@ -79,7 +79,7 @@ later_first a b c {xs = xs} ab bc chain =
     rw (part_in_two a b c xs ab (omega arith)) at (without_first (part a b) ab (more (le_refl b) bc chain))
 
 -- a lamella that counts at a depth counts at a shallower
-counts_shallower : (a b top : ℕ) (l : Lamella) → a ≤ b → counts b top l ≡ true → counts a top l ≡ true
+pub counts_shallower : (a b top : ℕ) (l : Lamella) → a ≤ b → counts b top l ≡ true → counts a top l ≡ true
 counts_shallower a b top l h e =
     let least = leb-true least_remainder ((rest b top l).to - (rest b top l).from) (and_right (along l) _ e) in
     rw (and_left (along l) _ e, le-leb least_remainder ((rest a top l).to - (rest a top l).from) (omega arith))

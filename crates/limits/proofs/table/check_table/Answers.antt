@@ -1,10 +1,10 @@
 -- `limits::table::check_table` meets its contract: lines 11 to 13 are worked out where the lines above them do not fit. Assumes nothing.
+use Rattle.std.proofs.lemmas.Bool.{or_parts}
 use Rattle.std.proofs.Common.{Ok, ◌∙◌}
 use Rattle.limits.proofs.FirstLine.{accepted_with, cause_none, handed_above, checked_below}
 use Rattle.limits.specs.Causes.{bad_count}
 use Rattle.limits.specs.Lines.{down_to, below}
 use Rattle.limits.specs.Refusals.{table_lines}
-use Rattle.numbers.proofs.Booleans.{or_none}
 use Rattle.limits.proofs.table.check_table.Goals as goal
 
 pub returns-in_err-check_upper : goal.returns-in_err-check_upper
@@ -16,7 +16,7 @@ pub check_lower-requires : goal.check_lower-requires
 check_lower-requires c =
     let a = c.args in
     let none = cause_none (down_to 10 (table_lines a.f a.p)) tt (accepted_with c.in_ok-check_upper.ensures).0 in
-    (none 5, (or_none a.f.lamella_count (bad_count a.p.count) (none 10)).1)
+    (none 5, (or_parts a.f.lamella_count (bad_count a.p.count) (none 10)).1)
 
 pub returns : goal.returns
 returns c =

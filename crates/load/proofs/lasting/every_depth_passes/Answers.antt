@@ -1,6 +1,7 @@
 -- `load::lasting::every_depth_passes` meets its contract: every depth to `reached` passes, and a single depth that does not pass decides.
+use Rattle.std.proofs.lemmas.Bool.{false_from_ne_true}
 use Prim.Native.Nat.{ℕ, ◌+◌, ◌≤◌, ◌<◌}
-use Rattle.load.proofs.LoadMinutes.{every_tenth, not_true_false}
+use Rattle.load.proofs.LoadMinutes.{every_tenth}
 use Rattle.load.specs.Failure.{EveryTenthPasses}
 use Rattle.load.specs.LoadMinute.{every_from}
 use Rattle.numbers.proofs.Booleans.{not_both}
@@ -97,7 +98,7 @@ module _ (p : Panel) (edge deep : Section) (v : DesignValues) (reached to : ℕ)
 -- a depth that does not pass decides
 not_every : (passes : ℕ → Bool) (depth deepest : ℕ) → depth ≤ deepest → passes depth ≡ false → every_from passes 0 deepest ≡ false
 not_every passes depth deepest u e =
-    not_true_false (every_from passes 0 deepest) (λ t. not_both (passes depth) ((every_tenth passes deepest).0 t depth u) e)
+    false_from_ne_true (every_from passes 0 deepest) (λ t. not_both (passes depth) ((every_tenth passes deepest).0 t depth u) e)
 
 -- the next range goes on, and not past the deepest
 further : (c : After-min-to) → (c.loop-reached.reached < c.min-to.result) × (c.min-to.result ≤ c.args.deepest)

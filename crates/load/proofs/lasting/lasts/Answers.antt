@@ -1,11 +1,11 @@
 -- `load::lasting::lasts` meets its contract: each fire of a panel that no line above 13 turns back is that of such a panel.
 -- Assumes nothing.
+use Rattle.std.proofs.lemmas.Bool.{false_from_ne_true}
 use Rattle.charring.proofs.Accepted.{fire_part}
 use Rattle.charring.specs.Fits.{FireFits}
 use Rattle.limits.proofs.Accepted.{to12_keeps}
 use Rattle.limits.proofs.Turned.{to12_turned}
 use Rattle.limits.specs.Refusals.{refusal_to12}
-use Rattle.load.proofs.LoadMinutes.{not_true_false}
 use Rattle.load.specs.Lasting.{lasts}
 use Rattle.load.specs.LoadMinute.{time_test}
 use Rattle.numbers.proofs.Booleans.{not_both}
@@ -44,7 +44,7 @@ returns-then-not-fire_lasts c =
     let minute = c.args.minute in
     let fails = sym (first (goal.at.returns-then-not-fire_lasts c).After-fire_lasts) ∙ c.if-not-fire_lasts.true in
     sym
-    (not_true_false (lasts p minute)
+    (false_from_ne_true (lasts p minute)
     (λ t. not_both (time_test (shown p) minute 1) (every_shown (λ fire. time_test fire minute 1) p.face p t) fails))
 
 pub returns-then-p-lt2 : goal.returns-then-p-lt2
