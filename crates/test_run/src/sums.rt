@@ -7,7 +7,7 @@ use std::fmt;
 #[derive(Clone, Copy)]
 pub struct LayerTimes {
     sum: u32,
-    ei: u32,
+    ei: u16,
 }
 
 impl fmt::Display for LayerTimes {
