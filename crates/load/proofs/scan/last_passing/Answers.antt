@@ -92,7 +92,6 @@ returns-then-not-section_passes c =
     sym
     (last_found c.args.accepted c.loop-next.c.depth (within c.args.accepted c.loop-next.c i.0) i.1
     (λ _. sym (judged at.After-section_passes (later at.In-Some)) ∙ c.if-not-section_passes.true))
-   
 
 pub loop-next-preserved-else-not-section_passes : goal.loop-next-preserved-else-not-section_passes
 loop-next-preserved-else-not-section_passes c =
@@ -120,4 +119,3 @@ returns c =
     let i = c.loop-next.invariant in
     let end : c.loop-next.c.depth ≡ thickness (lamellae p) = c.in_default.ensures ∙ ap thickness i.0 in
     sym (last_found p c.loop-next.c.depth (within p c.loop-next.c i.0) i.1 (λ less. absurd (let z : ⊥ = omega arith in z)))
-   
