@@ -101,15 +101,17 @@ impl Sums {
         requires { self.end + thick ≤ 4000 }
         ensures { (result.section ≡ with_lamella depth self.end (lamella direction thick) self.section) × (result.end ≡ self.end + thick) }
     {
-        let from = u64::from(depth).max(self.end);
         let to = self.end + u64::from(thick);
-        if direction != 1 || !is_enough(from, to) {
-            return Sums {
-                section: self.section,
-                end: to,
-            };
+        if direction == 1 {
+            let from = u64::from(depth).max(self.end);
+            if is_enough(from, to) {
+                return self.with_part(Part { from, to });
+            }
         }
-        self.with_part(Part { from, to })
+        Sums {
+            section: self.section,
+            end: to,
+        }
     }
 }
 

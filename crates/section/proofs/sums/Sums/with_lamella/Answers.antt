@@ -9,40 +9,38 @@ use Rattle.panel.specs.Lamellae.{lamella}
 use Rattle.section.specs.Sections.{least_remainder, counts}
 use Rattle.section.proofs.Growing.{lamella_counts, lamella_misses}
 use Rattle.section.proofs.sums.Sums.with_lamella.Goals as goal
-use Rattle.section.proofs.sums.Sums.with_lamella.Goals.{After-from-2, then-direction-ne1-via-then-direction-ne1, then-direction-ne1-via-else-direction-ne1+then-not-is_enough}
+use Rattle.section.proofs.sums.Sums.with_lamella.Goals.{then-direction-eq1+else-is_enough, else-direction-eq1}
 
 -- the two tests are that of a lamella
-tested : (c : After-from-2) (enough : Bool) → enough ≡ leb least_remainder (c.args.self.end + c.from-2.result - c.max-from.result)
-    → counts c.args.depth c.args.self.end (lamella c.args.direction c.args.thick) ≡ (eqb c.args.direction 1 && enough)
-tested c enough e =
-    let a = c.args in
-    let begin = c.max-from.ensures ∙ ap (λ (x : ℕ). max x a.self.end) c.from.ensures in
-    sym
-    (ap (λ (b : Bool). eqb a.direction 1 && b)
-    (e ∙ ap₂ (λ (x y : ℕ). leb least_remainder (a.self.end + x - y)) c.from-2.ensures begin))
+tested : (depth top direction thick end begin : ℕ) (enough : Bool) → end ≡ top + thick → begin ≡ max depth top
+    → enough ≡ leb least_remainder (end - begin) → counts depth top (lamella direction thick) ≡ (eqb direction 1 && enough)
+tested depth top direction thick end begin enough ends begins e =
+    sym (ap (λ (b : Bool). eqb direction 1 && b) (e ∙ ap₂ (λ (x y : ℕ). leb least_remainder (x - y)) ends begins))
 
-pub returns-then-direction-ne1 : goal.returns-then-direction-ne1
-returns-then-direction-ne1 c =
+pub returns-then-is_enough : goal.returns-then-is_enough
+returns-then-is_enough c =
     let a = c.args in
+    let s = a.self in
     let l = lamella a.direction a.thick in
-    let at = (goal.at.returns-then-direction-ne1 c).After-from-2 in
-    let misses : counts a.depth a.self.end l ≡ false =
-    elim c.then-direction-ne1.branch [
-      | then-direction-ne1-via-then-direction-ne1 w ↦ rw (ne_eqb a.direction 1 w.if-direction-ne1.true)
-      | then-direction-ne1-via-else-direction-ne1+then-not-is_enough w ↦
-          tested at w.is_enough.result w.is_enough.ensures
-          ∙ rw w.if-not-is_enough.true (and-false (eqb a.direction 1))
-    ] in
-    (sym (lamella_misses a.depth a.self.end l a.self.section misses), ap (λ (x : ℕ). a.self.end + x) c.from-2.ensures)
+    let ends = ap (λ (x : ℕ). s.end + x) c.from.ensures in
+    let begins = c.max-from.ensures ∙ ap (λ (x : ℕ). max x s.end) c.from-then-direction-eq1.ensures in
+    let counts : counts a.depth s.end l ≡ true =
+    tested a.depth s.end a.direction a.thick _ _ c.is_enough.result ends begins c.is_enough.ensures
+    ∙ ap₂ (λ (d e : Bool). d && e) (eq-eqb a.direction 1 c.if-direction-eq1.true) c.if-is_enough.true in
+    (rw (lamella_counts a.depth s.end l s.section counts, ← begins, ← ends) c.with_part.ensures.0, c.with_part.ensures.1 ∙ ends)
 
 pub returns : goal.returns
 returns c =
     let a = c.args in
+    let s = a.self in
     let l = lamella a.direction a.thick in
-    let both = tested (goal.at.returns c).After-from-2 c.is_enough.result c.is_enough.ensures in
-    let counts : counts a.depth a.self.end l ≡ true =
-    both ∙ ap₂ (λ (d e : Bool). d && e) (eq-eqb a.direction 1 c.if-direction-ne1.false) c.if-not-is_enough.false in
-    let begin = c.max-from.ensures ∙ ap (λ (x : ℕ). max x a.self.end) c.from.ensures in (
-      rw (lamella_counts a.depth a.self.end l a.self.section counts, ← begin, ← c.from-2.ensures) c.with_part.ensures.0,
-      c.with_part.ensures.1 ∙ ap (λ (x : ℕ). a.self.end + x) c.from-2.ensures,
-    )
+    let ends = ap (λ (x : ℕ). s.end + x) c.from.ensures in
+    let misses : counts a.depth s.end l ≡ false =
+    elim c.if-direction-eq1.branch [
+      | then-direction-eq1+else-is_enough w ↦
+          let begins = w.max-from.ensures ∙ ap (λ (x : ℕ). max x s.end) w.from-then-direction-eq1.ensures in
+          tested a.depth s.end a.direction a.thick _ _ w.is_enough.result ends begins w.is_enough.ensures
+          ∙ rw w.if-is_enough.false (and-false (eqb a.direction 1))
+      | else-direction-eq1 w ↦ rw (ne_eqb a.direction 1 w.if-direction-eq1.false)
+    ] in
+    (sym (lamella_misses a.depth s.end l s.section misses), ends)
