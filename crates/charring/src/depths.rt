@@ -6,7 +6,8 @@ ghost use Rattle.charring.specs.Depths.{char_at, effective_at, micrometres_at, t
 
 use crate::{Fire, Time};
 
-// No open call: the divisor must be there, and what comes out must fit. The cast is kept as it is: the error of a `try_from` would never be.
+// No open call: the divisor must be there, and what comes out must fit. The cast is kept as it is: a `try_from` would add an error that never
+// comes.
 fn rounded_up(n: u64, d: u64) -> u32
     requires le_d { (20000 ≤ d) × (d ≤ 6720000) }
     requires n_bound { n ≤ 2 * d * 400000000000 }

@@ -72,10 +72,11 @@ pub struct Fire {
     ghost end_most: { end ≤ 385000000000 },
 }
 
-// A place on the way through the panel: the depth and where its run ends, in picometres; and times q what is left of the time in twice what
-// β alone adds, and what has charred on the way, in half picometres.
+// A place on the way that is gone up to a time, n/q minutes: the depth and where its run ends, in picometres; and times q what is left of
+// the time in twice what β alone adds, and what has charred on the way, in half picometres.
 #[derive(Clone, Copy)]
 pub(crate) struct Place {
+    at: Time,
     from: u64,
     end: u64,
     left: u64,

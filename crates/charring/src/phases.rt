@@ -9,7 +9,8 @@ use crate::lines::Lines;
 use crate::{Fire, Phase, Place, Time};
 
 impl Place {
-    // In a stretch whose fast part is so long, times q. The cast is kept as it is: the error of a `try_from` would never be.
+    // In a stretch whose fast part is so long, times q. The cast is kept as it is: it fits, and a `try_from` would add an error
+    // that never comes.
     fn phase_in(self, fast: u64) -> Phase
         ensures { result ≡ phase_in (ltb self.left fast) self.end }
     {
@@ -28,14 +29,14 @@ impl Fire {
     {
         let mut place = self.at_failure(at);
         for line in Lines::of(&self.panel) {
-            let fast = place.fast_part(line, at);
-            let settled = place.settled_part(line, at);
+            let fast = place.fast_part(line);
+            let settled = place.settled_part(line);
             if place.left < fast + 2 * settled {
                 return place.phase_in(fast);
             }
-            place = place.pass(line, at);
+            place = place.pass(line);
         }
-        place.phase_in(place.fast_part(self.back_line(), at))
+        place.phase_in(place.fast_part(self.back_line()))
     }
 
     // Four tests, each of another kind, which stay as they are: the first that holds decides.

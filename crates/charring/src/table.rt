@@ -5,7 +5,8 @@ ghost use Rattle.charring.specs.Answers.{table_length, depth_table};
 use crate::{ENTRIES, Fire};
 
 impl Fire {
-    // No open call: the space must be there. The cast is kept as it is: of a place std makes no u64, and a `try_from` would never fail.
+    // No open call: the space must be there. The cast is kept as it is: std has no `From<usize>` of u64, and a
+    // `try_from` would add an error that never comes.
     pub(crate) fn fill(&self, out: &mut [u32])
         requires { table_length ≤ length out.old }
         ensures { out.new ≡ depth_table self.now.panel ++ drop table_length out.old }

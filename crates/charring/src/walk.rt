@@ -9,26 +9,30 @@ use crate::{Fire, Place, Time};
 
 impl Place {
     // The parts of the stretch from here to a line, times q.
-    pub(crate) fn fast_part(self, line: Line, at: Time) -> u64
-        ensures { (result ≡ at.q * (min self.end line.at - self.from)) × (result ≤ 24000000000000) }
+    pub(crate) fn fast_part(self, line: Line) -> u64
+        ensures { (result ≡ self.at.q * (min self.end line.at - self.from)) × (result ≤ 24000000000000) }
     {
-        at.scaled(self.end.min(line.at).saturating_sub(self.from))
+        self.at
+            .scaled(self.end.min(line.at).saturating_sub(self.from))
     }
 
-    pub(crate) fn settled_part(self, line: Line, at: Time) -> u64
-        ensures { (result ≡ at.q * (line.at - max self.from self.end)) × (result ≤ 24000000000000) }
+    pub(crate) fn settled_part(self, line: Line) -> u64
+        ensures { (result ≡ self.at.q * (line.at - max self.from self.end)) × (result ≤ 24000000000000) }
     {
-        at.scaled(line.at.saturating_sub(self.from.max(self.end)))
+        self.at
+            .scaled(line.at.saturating_sub(self.from.max(self.end)))
     }
 
     // To the end of a stretch, where the line's run starts.
-    fn cross(self, line: Line, at: Time) -> Place
-        ensures { Crossed at.q self line.at line.end result }
+    fn cross(self, line: Line) -> Place
+        ensures crossed { Crossed self.at.q self line.at line.end result }
+        ensures at { result.at ≡ self.at }
     {
-        let fast = self.fast_part(line, at);
-        let settled = self.settled_part(line, at);
+        let fast = self.fast_part(line);
+        let settled = self.settled_part(line);
         let past_fast = self.left.saturating_sub(fast);
         Place {
+            at: self.at,
             from: line.at,
             end: line.end,
             left: past_fast.saturating_sub(2 * settled),
@@ -37,11 +41,12 @@ impl Place {
     }
 
     // Past a bond line. One that was passed before t_f starts nothing.
-    pub(crate) fn pass(self, line: Line, at: Time) -> Place
-        ensures { Passed at.q self line result }
+    pub(crate) fn pass(self, line: Line) -> Place
+        ensures passed { Passed self.at.q self line result }
+        ensures at { result.at ≡ self.at }
     {
         if self.from <= line.at {
-            self.cross(line, at)
+            self.cross(line)
         } else {
             self
         }
@@ -52,10 +57,12 @@ impl Fire {
     // Where the way begins, with the time since t_f.
     pub(crate) fn at_failure(&self, at: Time) -> Place
         ensures start { (result.from ≡ depth_at_failure self.now.panel) × (result.end ≡ first_end self.now.panel) × (result.gained ≡ 0) }
+        ensures at { result.at ≡ at }
         ensures left { result.left ≡ 2 * plain_rate self.now.panel * (1000 * at.n - at.q * failure_of self.now.panel) }
     {
         let late = (1000 * at.n).saturating_sub(at.scaled(self.failure));
         Place {
+            at,
             from: self.depth,
             end: self.end,
             left: 2 * self.plain * late,
@@ -79,8 +86,8 @@ impl Fire {
     {
         let mut place = self.at_failure(at);
         for line in Lines::of(&self.panel) {
-            place = place.pass(line, at);
+            place = place.pass(line);
         }
-        place.cross(self.back_line(), at).gained
+        place.cross(self.back_line()).gained
     }
 }

@@ -31,7 +31,7 @@ pub fn part_from(s: &[u8], at: usize) -> &[u8]
 }
 
 // No open call: the N bytes from `at` on must be there. The place and the room are kept as they are: of an array lent in its place
-// (`first_chunk_mut`) the caller would have an `Option`, whose `None` never is.
+// (`first_chunk_mut`) the caller would have an `Option`, whose `None` never comes.
 pub fn put<const N: usize>(out: &mut [u8], at: usize, bytes: [u8; N])
     requires { at + N ≤ length out.old }
     ensures { out.new ≡ sets out.old at bytes.entry }

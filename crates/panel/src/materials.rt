@@ -19,8 +19,8 @@ pub fn thicknesses(m: Material) -> RangeInclusive<u16>
     }
 }
 
-// Whether no layer of the material has this thickness. The two numbers are kept as they are, apart: a layer's material is known by what it
-// is, a board or a lamella, and its thickness stands there.
+// Whether no layer of the material has this thickness. The two are kept as they are, apart: a board's material follows from its type and a
+// lamella's is wood, so that no panel holds them together.
 pub fn bad_thickness(m: Material, h: u16) -> bool
     ensures { result ≡ bad_thickness m h }
 {

@@ -42,7 +42,7 @@ fn board(b: Board) -> [u8; layout::BOARD]
 }
 
 // The room asked for is kept as it is, here and in the functions below: it differs from part to part, and a lent array of that length would
-// come out of `first_chunk_mut`, an `Option` whose `None` never is.
+// come out of `first_chunk_mut`, an `Option` whose `None` never comes.
 #[tactic(auto, unfolding(crate::specs::Layouts::board_bytes))]
 fn put_cladding(out: &mut [u8], c: Cladding)
     requires { board_length * length (boards_of c) ≤ length out.old }
@@ -95,8 +95,8 @@ fn head(p: Panel) -> [u8; layout::HEAD]
     ]
 }
 
-// The number n of lamellae, then each lamella. The room is kept as it is, and so is the cast: n is at most nine, and the error of a
-// `try_from` would never be.
+// The number n of lamellae, then each lamella. The room is kept as it is, and so is the cast: n is at most nine, and a `try_from`
+// would add an error that never comes.
 fn put_tail(out: &mut [u8], accepted: Accepted)
     requires { count_length + lamella_length * accepted.count ≤ length out.old }
     ensures { out.new ≡ sets out.old 0 (tail_bytes accepted) }

@@ -6,4 +6,5 @@ use Rattle.charring.proofs.Ways.{comes}
 use Rattle.charring.proofs.Fire.after.Given as goal
 
 abbrev pub invariant-loop-line : goal.invariant-loop-line
-invariant-loop-line l = comes l.at.q l.place (lines_left l.line-iterator) l.self.back ≡ after_at l.self.panel l.at.n l.at.q
+invariant-loop-line l =
+    (l.place.at ≡ l.fn.at) × (comes l.fn.at.q l.place (lines_left l.line-iterator) l.self.back ≡ after_at l.self.panel l.fn.at.n l.fn.at.q)

@@ -9,4 +9,4 @@ use Rattle.charring.proofs.Onward.{goes}
 use Rattle.charring.proofs.Fire.phase_after.Given as goal
 
 abbrev pub invariant-loop-line : goal.invariant-loop-line
-invariant-loop-line l = goes l.at.q l.place (lines_left l.line-iterator) l.self.back ≡ phase_on (way l.self.panel) (2 * plain_rate l.self.panel * (1000 * l.at.n - l.at.q * failure_of l.self.panel)) l.at.q
+invariant-loop-line l = (l.place.at ≡ l.fn.at) × (goes l.fn.at.q l.place (lines_left l.line-iterator) l.self.back ≡ phase_on (way l.self.panel) (2 * plain_rate l.self.panel * (1000 * l.fn.at.n - l.fn.at.q * failure_of l.self.panel)) l.fn.at.q)
