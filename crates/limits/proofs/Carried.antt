@@ -8,11 +8,11 @@ use Rattle.panel.specs.Lamellae.{Lamella, lamellae}
 use Rattle.panel.specs.Faces.{turned}
 use Rattle.section.specs.Tests.{section_at}
 use Rattle.section.specs.Carried.{carried}
-use Rattle.section.specs.Carrying.{EachThick}
+use Rattle.section.specs.Carrying.{EachThick, LamellaeFit}
 use Rattle.section.proofs.Carrying.{carried_section}
 use Rattle.limits.specs.Keeps.{LamellaeKeep}
 use Rattle.limits.specs.Refusals.{panel_refusal}
-use Rattle.limits.proofs.Accepted.{accepted_keeps}
+use Rattle.limits.proofs.Accepted.{accepted_keeps, accepted_fits}
 use Rattle.limits.proofs.Turned.{refusal_turned}
 
 -- a lamella that line 11 lets through is counted until it is cut
@@ -22,6 +22,10 @@ each_thick (l ∷ ls) keep = (omega (arith, keep.0.thickness.least), each_thick 
 
 pub accepted_thick : (p : Panel) → panel_refusal p ≡ 0 → EachThick (lamellae p)
 accepted_thick p e = each_thick (lamellae p) (accepted_keeps p e).each
+
+-- the lamellae of an accepted panel are what may be carried along
+pub accepted_lamellae : (p : Panel) → panel_refusal p ≡ 0 → LamellaeFit (lamellae p)
+accepted_lamellae p e = record { thickness = (accepted_fits p e).thickness; each = accepted_thick p e }
 
 -- N, P, Q, lo and hi as carried equal the definition's at every depth, also past the panel's thickness, where nothing is left
 abbrev pub CarriesSection : Panel → Type 0

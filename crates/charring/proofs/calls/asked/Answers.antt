@@ -1,9 +1,8 @@
 -- `charring::calls::asked` meets its contract: the panel's lines come before line 15. Assumes nothing.
 use Rattle.std.proofs.Common.{Ok}
-use Rattle.std.proofs.lemmas.Result.{err_from_is_err_and}
 use Rattle.charring.specs.Answers.{minute_refusal, asked_answer}
 use Rattle.charring.proofs.Replies.{late}
-use Rattle.limits.proofs.FirstLine.{accepted_with, refused_above, call_line, passed_on, worked_out}
+use Rattle.limits.proofs.FirstLine.{accepted_with, handed_above, handed_on, call_line, worked_out}
 use Rattle.limits.specs.Answers.{accepted_answer}
 use Rattle.limits.specs.Causes.{bad_minute}
 use Rattle.limits.specs.Refusals.{panel_lines, panel_refusal}
@@ -14,17 +13,16 @@ pub returns-in_err-accepted : goal.returns-in_err-accepted
 unfolding asked_answer minute_refusal accepted_answer panel_refusal
 returns-in_err-accepted c =
     let a = c.args in
-    let p = err_from_is_err_and c.from_residual.result c.from_residual.ensures.1 in
-    rw (p.1, p.2) (refused_above (panel_lines a.p) (late a.minute) a.p (Ok a.p) c.in_err-accepted.ensures)
+    handed_above (panel_lines a.p) (late a.minute) a.p (Ok a.p) _ c.from_residual.result c.from_residual.ensures.1 c.in_err-accepted.ensures
 
 pub returns-in_err-refuse_if : goal.returns-in_err-refuse_if
 unfolding asked_answer minute_refusal accepted_answer panel_refusal
 returns-in_err-refuse_if c =
     let a = c.args in
-    let p = err_from_is_err_and c.from_residual-in_err-refuse_if.result c.from_residual-in_err-refuse_if.ensures.1 in
+    let handed = c.from_residual-in_err-refuse_if in
     let none = (accepted_with c.in_ok-accepted.ensures).0 in
-    rw (p.1, p.2)
-    (passed_on (minute_refusal a.p a.minute) tt (Ok a.p) (call_line (panel_lines a.p) tt none (bad_minute a.minute) Minute c.in_err-refuse_if.ensures))
+    handed_on (minute_refusal a.p a.minute) tt (Ok a.p) _ handed.result handed.ensures.1
+    (call_line (panel_lines a.p) tt none (bad_minute a.minute) Minute c.in_err-refuse_if.ensures)
 
 pub returns : goal.returns
 unfolding asked_answer minute_refusal accepted_answer panel_refusal

@@ -1,7 +1,6 @@
 -- `charring::calls::at_minute` meets its contract: the closure is called where no line refuses the panel or the minute. Assumes nothing.
 use Rattle.std.proofs.Common.{Ok, ap, ◌∙◌}
-use Rattle.std.proofs.lemmas.Result.{err_from_is_err_and}
-use Rattle.limits.proofs.FirstLine.{accepted_with, passed_on, worked_out}
+use Rattle.limits.proofs.FirstLine.{accepted_with, handed_on, worked_out}
 use Rattle.charring.proofs.Replies.{minute_taken}
 use Rattle.charring.specs.Answers.{minute_refusal, asked_answer}
 use Rattle.panel.specs.Faces.{shown}
@@ -11,8 +10,7 @@ use Rattle.charring.proofs.calls.at_minute.Goals as goal
 pub returns-in_err-accepted : goal.returns-in_err-accepted
 unfolding asked_answer
 returns-in_err-accepted g c = λ value gives.
-    let p = err_from_is_err_and c.from_residual.result c.from_residual.ensures.1 in
-    rw (p.1, p.2) (passed_on (minute_refusal c.args.p c.args.minute) c.args.p (Ok value) c.in_err-accepted.ensures)
+    handed_on (minute_refusal c.args.p c.args.minute) c.args.p (Ok value) _ c.from_residual.result c.from_residual.ensures.1 c.in_err-accepted.ensures
 
 pub of-requires : goal.of-requires
 unfolding asked_answer

@@ -1,9 +1,8 @@
 -- `charring::calls::depth_table` meets its contract: the table is filled where no line and no want of space refuses the call. Assumes nothing.
 use Rattle.std.proofs.Common.{◌≤◌, ◌++◌, length, drop, sym, ap, ◌∙◌}
-use Rattle.std.proofs.lemmas.Result.{err_from_is_err_and}
 use Rattle.charring.proofs.Replies.{short, table_turned, table_filled}
 use Rattle.charring.specs.Answers.{depth_table, table_refusal}
-use Rattle.limits.proofs.FirstLine.{turned_above, accepted_with, refused_with, call_line, not_fitting}
+use Rattle.limits.proofs.FirstLine.{turned_above, accepted_with, refused_with, handed, call_line, not_fitting}
 use Rattle.limits.specs.Answers.{accepted_answer}
 use Rattle.limits.specs.Refusals.{panel_lines, panel_refusal}
 use Rattle.limits.specs.declared.refusal.Refusal.TheVariants.{Space}
@@ -17,20 +16,19 @@ pub returns-in_err-accepted : goal.returns-in_err-accepted
 unfolding table_refusal accepted_answer panel_refusal
 returns-in_err-accepted c =
     let a = c.args in
-    let p = err_from_is_err_and c.from_residual.result c.from_residual.ensures.1 in
     let h = refused_with a.p c.in_err-accepted.ensures in
     let both = table_turned a.p a.out.now _ (turned_above (panel_lines a.p) (short a.out.now) h.0 (λ z. h.1 (sym h.0 ∙ z))) (λ z. h.1 (sym h.0 ∙ z)) in
-    record { value = rw (p.1, p.2) both.0; out_after = both.1 }
+    record { value = handed _ c.from_residual.result c.from_residual.ensures.1 ∙ both.0; out_after = both.1 }
 
 pub returns-in_err-refuse_if : goal.returns-in_err-refuse_if
 unfolding table_refusal accepted_answer panel_refusal
 returns-in_err-refuse_if c =
     let a = c.args in
-    let p = err_from_is_err_and c.from_residual-in_err-refuse_if.result c.from_residual-in_err-refuse_if.ensures.1 in
+    let residual = c.from_residual-in_err-refuse_if in
     let none = (accepted_with c.in_ok-accepted.ensures).0 in
     let h = refused_with tt (call_line (panel_lines a.p) tt none (ltb (length a.out.now) 361) Space c.in_err-refuse_if.ensures) in
     let both = table_turned a.p a.out.now _ h.0 (λ z. h.1 (sym h.0 ∙ z)) in
-    record { value = rw (p.1, p.2) both.0; out_after = both.1 }
+    record { value = handed _ residual.result residual.ensures.1 ∙ both.0; out_after = both.1 }
 
 pub fill-requires : goal.fill-requires
 fill-requires c = ltb-false (length c.args.out.now) 361 (not_fitting (ltb (length c.args.out.now) 361) Space c.in_ok-refuse_if.ensures)

@@ -1,7 +1,7 @@
 -- `load::scan::last_passing` meets its contract: every depth to the present one passes, and the first that does not decides.
 use Prim.Native.Nat.{ℕ, ◌+◌, ◌≤◌, ◌<◌}
-use Rattle.limits.proofs.Accepted.{accepted_fits, accepted_passes}
-use Rattle.limits.proofs.Carried.{accepted_thick}
+use Rattle.limits.proofs.Accepted.{accepted_passes}
+use Rattle.limits.proofs.Carried.{accepted_thick, accepted_lamellae}
 use Rattle.limits.specs.Refusals.{panel_refusal}
 use Rattle.load.proofs.LastPassing.{last_found}
 use Rattle.load.specs.Failure.{EveryTenthPasses}
@@ -9,7 +9,7 @@ use Rattle.panel.specs.Lamellae.{Lamella, lamellae, thickness}
 use Rattle.panel.specs.Timber.{factor_of}
 use Rattle.panel.specs.declared.Panel.{Panel}
 use Rattle.section.proofs.Carrying.{n_stays}
-use Rattle.section.specs.Carrying.{EachThick, LamellaeFit}
+use Rattle.section.specs.Carrying.{EachThick}
 use Rattle.section.specs.Tests.{carries, section_at, depth_passes}
 use Rattle.section.specs.declared.carry.Carried.{Carried}
 use Rattle.section.specs.declared.Section.{Section}
@@ -46,10 +46,6 @@ passes_still p c r each at later d n =
     sym (ap (λ (s : Section). s.n) there) ∙ n ∙ ap (λ (s : Section). s.n) (here p c at) in
     ap (carries (factor_of p.bond) p.moment p.strength) (n_stays c.depth (lamellae p) each same)
 
--- the lamellae keep the limits of line 11
-fits : (p : Panel) → panel_refusal p ≡ 0 → LamellaeFit (lamellae p)
-fits p e = record { thickness = (accepted_fits p e).thickness; each = accepted_thick p e }
-
 -- with one depth more
 passes_more : (p : Panel) (depth next : ℕ) → next ≡ depth + 1 → EveryTenthPasses (depth_passes p) depth → depth_passes p (depth + 1) ≡ true
     → EveryTenthPasses (depth_passes p) next
@@ -76,7 +72,7 @@ within p c at = omega (arith, c.within, ap thickness at)
 
 pub start-c-requires : goal.start-c-requires
 start-c-requires c =
-    rw (c.lamellae.ensures ∙ ap lamellae c.panel-p.ensures.panel) (fits c.args.accepted (accepted (goal.at.start-c-requires c).After-panel-p))
+    rw (c.lamellae.ensures ∙ ap lamellae c.panel-p.ensures.panel) (accepted_lamellae c.args.accepted (accepted (goal.at.start-c-requires c).After-panel-p))
 
 pub loop-next-init : goal.loop-next-init
 loop-next-init c =

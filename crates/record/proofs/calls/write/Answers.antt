@@ -1,7 +1,6 @@
 -- `record::calls::write` meets its contract: the record is stored where no line and no want of space refuses it. Assumes nothing.
 use Rattle.std.proofs.Common.{◌≡◌, ◌≤◌, length, sym, ap, ◌∙◌}
-use Rattle.std.proofs.lemmas.Result.{err_from_is_err_and}
-use Rattle.limits.proofs.FirstLine.{turned_above, accepted_with, refused_with, call_line, not_fitting}
+use Rattle.limits.proofs.FirstLine.{turned_above, accepted_with, refused_with, handed, call_line, not_fitting}
 use Rattle.limits.specs.Answers.{accepted_answer}
 use Rattle.limits.specs.Refusals.{panel_lines, panel_refusal}
 use Rattle.limits.specs.declared.refusal.Refusal.TheVariants.{Space}
@@ -18,21 +17,20 @@ pub returns-in_err-accepted : goal.returns-in_err-accepted
 unfolding write_refusal accepted_answer panel_refusal
 returns-in_err-accepted c =
     let a = c.args in
-    let p = err_from_is_err_and c.from_residual.result c.from_residual.ensures.1 in
     let h = refused_with a.p c.in_err-accepted.ensures in
     let both = answers_refused a.p a.out.now _ (turned_above (panel_lines a.p) (short a.p a.out.now) h.0 (λ z. h.1 (sym h.0 ∙ z))) (λ z. h.1 (sym h.0 ∙ z)) in
-    record { value = rw (p.1, p.2) both.0; out_after = both.1 }
+    record { value = handed _ c.from_residual.result c.from_residual.ensures.1 ∙ both.0; out_after = both.1 }
 
 pub returns-in_err-refuse_if : goal.returns-in_err-refuse_if
 unfolding write_refusal accepted_answer panel_refusal
 returns-in_err-refuse_if c =
     let a = c.args in
-    let p = err_from_is_err_and c.from_residual-in_err-refuse_if.result c.from_residual-in_err-refuse_if.ensures.1 in
+    let residual = c.from_residual-in_err-refuse_if in
     let taken = accepted_with c.in_ok-accepted.ensures in
     let whole : c.record_length-length.result ≡ record_length a.p = c.record_length-length.ensures.0 ∙ ap record_length taken.1 in
     let h = refused_with tt (call_line (panel_lines a.p) tt taken.0 (short_for a.p a.out.now) Space (rw whole at c.in_err-refuse_if.ensures)) in
     let both = answers_refused a.p a.out.now _ h.0 (λ z. h.1 (sym h.0 ∙ z)) in
-    record { value = rw (p.1, p.2) both.0; out_after = both.1 }
+    record { value = handed _ residual.result residual.ensures.1 ∙ both.0; out_after = both.1 }
 
 pub put_record-requires : goal.put_record-requires
 put_record-requires c =

@@ -1,7 +1,6 @@
 -- `record::writer::put_tail` meets its contract: the lamellae follow their number.
 -- Assumes nothing.
 use Prim.Native.Nat.{ℕ, ◌+◌, ◌-◌, ◌≤◌}
-use Rattle.limits.proofs.Accepted.{accepted_fits}
 use Rattle.numbers.proofs.Lists.{rest_stored}
 use Rattle.panel.proofs.Used.{length_lamellae_of}
 use Rattle.panel.specs.Lamellae.{Lamella, lamellae}
@@ -16,10 +15,7 @@ use native.Mathlib.Omega.{arith}
 use Rattle.record.proofs.writer.put_tail.Goals as goal
 
 pub overflow_cast-p : goal.overflow_cast-p
-overflow_cast-p c = omega (arith, (accepted_fits c.panel-p.result c.panel-p.ensures.accepted).count)
-
-pub lamellae-requires : goal.lamellae-requires
-lamellae-requires c = (accepted_fits c.panel-p.result c.panel-p.ensures.accepted).count
+overflow_cast-p c = omega (arith, c.panel-p.ensures.keeps.section.count)
 
 pub put_lamellae-requires : goal.put_lamellae-requires
 put_lamellae-requires c =

@@ -1,18 +1,15 @@
 -- A panel that no line turns back keeps what the carrying asks of its lamellae.
 use Rattle.std.proofs.Common.{◌≡◌, ap, ◌∙◌, arith}
 use Rattle.limits.proofs.Accepted.{accepted_fits}
-use Rattle.limits.proofs.Carried.{accepted_thick}
+use Rattle.limits.proofs.Carried.{accepted_thick, accepted_lamellae}
 use Rattle.limits.specs.Refusals.{panel_refusal}
 use Rattle.panel.specs.Lamellae.{lamellae}
 use Rattle.panel.specs.declared.Panel.{Panel}
 use Rattle.section.specs.Carrying.{LamellaeFit}
 use Rattle.test_run.proofs.sections.carried_to.Goals as goal
 
-fits : (p : Panel) → panel_refusal p ≡ 0 → LamellaeFit (lamellae p)
-fits p e = record { thickness = (accepted_fits p e).thickness; each = accepted_thick p e }
-
 pub start-c-requires : goal.start-c-requires
-start-c-requires c = rw c.lamellae.ensures (fits c.panel-p.result c.panel-p.ensures.accepted)
+start-c-requires c = rw c.lamellae.ensures (accepted_lamellae c.panel-p.result c.panel-p.ensures.accepted)
 
 pub loop-c-init : goal.loop-c-init
 loop-c-init c = (c.start-c.ensures.0 ∙ c.lamellae.ensures ∙ ap lamellae c.panel-p.ensures.panel, omega (arith, c.start-c.ensures.1))
