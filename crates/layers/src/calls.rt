@@ -17,7 +17,8 @@ pub fn ei_sum(p: Panel) -> Result<u32, Refusal>
     Ok(least_sum_of(accepted))
 }
 
-// EI in whole minutes.
+// EI in whole minutes. A check and a step, as in load's `load_minute` and the other open calls of a panel, are kept as they are: `map` would
+// say no more of them than `?`, and the step differs in each.
 #[tactic(auto, using(limits::proofs::FirstLine::handed_on, limits::proofs::FirstLine::worked_out), unfolding(crate::specs::Answers::ei_answer, limits::specs::Answers::accepted_answer))]
 pub fn ei(p: Panel) -> Result<u16, Refusal>
     ensures { by_number result ≡ ei_answer p }

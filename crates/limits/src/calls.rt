@@ -20,7 +20,8 @@ pub fn panel_check(p: Panel) -> Result<(), Refusal>
     Ok(())
 }
 
-// The section at a depth in tenths of mm, and whether the depth passes, in the fire that is shown.
+// The section at a depth in tenths of mm, and whether the depth passes, in the fire that is shown. Both are kept as they are, side by side:
+// a depth that fails has its section too.
 #[tactic(auto, using(crate::proofs::FirstLine::handed_on, crate::proofs::FirstLine::goes_on), unfolding(crate::specs::Answers::section_answer, crate::specs::Answers::accepted_answer))]
 pub fn section(p: Panel, depth: u32) -> Result<(Section, bool), Refusal>
     ensures { by_number result ≡ section_answer p depth }

@@ -11,24 +11,28 @@ use panel::materials::bad_thickness;
 use panel::{Board, Cladding, Material, Panel, WHOLE_JOINT};
 use section::test::depth_passes;
 
+// A range, as `bad_rate` is, which stays as it is: each is a line of the table by itself.
 pub(crate) fn bad_version(p: Panel) -> bool
     ensures { result ≡ bad_version p }
 {
     !(1..=2).contains(&p.version)
 }
 
+// Raw numbers are kept as they are, here and below: a panel is plain data, whose numbers calls refuse.
 pub(crate) fn bad_face(p: Panel) -> bool
     ensures { result ≡ bad_face p }
 {
     (2 < p.face) | ((p.version == 1) & (p.face != 0))
 }
 
+// Raw numbers, kept as they are.
 pub(crate) fn bad_bond_or_gap(p: Panel) -> bool
     ensures { result ≡ bad_bond_or_gap p }
 {
     (1 < p.bond) | (1 < p.gap)
 }
 
+// A range, which stays as it is: see `bad_version`.
 pub(crate) fn bad_rate(p: Panel) -> bool
     ensures { result ≡ bad_rate p }
 {
@@ -51,6 +55,7 @@ fn bad_pair(outer: Board, inner: Board) -> bool
         | is_wood_based(inner)
 }
 
+// Over the boards, as `bad_boards` is, which stays as it is: of two boards line 7 asks more than of each.
 pub(crate) fn bad_types(c: Cladding) -> bool
     ensures { result ≡ bad_types c }
 {
@@ -67,6 +72,7 @@ fn bad_board(b: Board) -> bool
     bad_thickness(material_of(b.kind), b.thickness) | !(1..=WHOLE_JOINT).contains(&b.joint)
 }
 
+// Over the boards, which stays as it is: see `bad_types`.
 pub(crate) fn bad_boards(c: Cladding) -> bool
     ensures { result ≡ bad_boards c }
 {
@@ -94,6 +100,7 @@ pub(crate) fn bad_count(count: usize) -> bool
     !(1..=9).contains(&count)
 }
 
+// A raw number, kept as it is.
 fn bad_lamella(direction: u8, thickness: u16) -> bool
     ensures { result ≡ bad_lamella (lamella direction thickness) }
 {
@@ -130,7 +137,7 @@ fn some_along(lamellae: Lamellae<'_>) -> bool
     lamellae.directions.contains(&1)
 }
 
-// No open call: the count must be at most 9.
+// No open call: the count must be at most 9, which is kept as it is, here and below: the panel is not accepted yet.
 pub(crate) fn bad_lamellae(p: Panel) -> bool
     requires { p.count ≤ 9 }
     ensures { result ≡ bad_lamellae p }
@@ -139,7 +146,7 @@ pub(crate) fn bad_lamellae(p: Panel) -> bool
     some_bad_lamella(lamellae) | (4000 < total_thickness(lamellae))
 }
 
-// No open call: the count must be at most 9.
+// No open call: the count, as above, is kept as it is.
 pub(crate) fn none_along(p: Panel) -> bool
     requires { p.count ≤ 9 }
     ensures { result ≡ none_along p }
@@ -147,7 +154,7 @@ pub(crate) fn none_along(p: Panel) -> bool
     !some_along(p.lamellae())
 }
 
-// No open call: the section test must fit its numbers.
+// No open call: the section test must fit its numbers, which is kept as it is: the panel is not accepted yet.
 pub(crate) fn bad_section(p: Panel) -> bool
     requires { SectionFits p }
     ensures { result ≡ bad_section p }

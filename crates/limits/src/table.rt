@@ -20,7 +20,7 @@ pub fn refuse_if(fits: bool, refusal: Refusal) -> Result<(), Refusal>
     if fits { Err(refusal) } else { Ok(()) }
 }
 
-// Lines 1, 2, 16 and 3 to 10.
+// Lines 1, 2, 16 and 3 to 10. What the bytes say and the panel stay as they are, two parameters: see `Accepted::in_bytes`.
 fn check_upper(f: ByteFaults, p: Panel) -> Result<(), Refusal>
     ensures { by_number result ≡ checked (down_to 10 (table_lines f p)) }
 {
@@ -47,7 +47,7 @@ fn check_lower(p: Panel) -> Result<(), Refusal>
     refuse_if(bad_section(p), Refusal::Section)
 }
 
-// The whole table.
+// The whole table. Its two parameters stay as they are, too.
 pub fn check_table(f: ByteFaults, p: Panel) -> Result<(), Refusal>
     ensures { by_number result ≡ checked (table_lines f p) }
 {

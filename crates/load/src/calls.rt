@@ -11,7 +11,7 @@ use limits::minute::Minute;
 use limits::refusal::Refusal;
 use panel::Panel;
 
-// The load minute.
+// The load minute. The check and the step stay as they are: see `ei` (layers).
 #[tactic(auto, using(limits::proofs::FirstLine::handed_on, limits::proofs::FirstLine::worked_out), unfolding(crate::specs::Answers::load_answer, limits::specs::Answers::accepted_answer))]
 pub fn load_minute(p: Panel) -> Result<u16, Refusal>
     ensures { by_number result ≡ load_answer p }

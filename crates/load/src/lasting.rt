@@ -14,7 +14,8 @@ use section::sums::section_in;
 use section::test::DesignValues;
 
 // Every depth to `reached` passes. The next ones are tested at once: twice as many as before where they pass together, half as many where
-// they do not, and a single one by itself.
+// they do not, and a single one by itself. It is kept as it is beside `last_keeping`: the range widens too. The cast stays as it is, since
+// `try_from` would add a branch that never runs; and so does what is asked of the panel: line 13 may refuse it.
 fn every_depth_passes(p: Panel, deepest: u64) -> bool
     requires { SectionFits p × (deepest ≤ 4000) }
     ensures { result ≡ every_from (depth_passes p) 0 deepest }
@@ -46,7 +47,7 @@ fn every_depth_passes(p: Panel, deepest: u64) -> bool
     true
 }
 
-// In the fire on the first face.
+// In the fire on the first face. What is asked stays as it is: line 13 may refuse the panel.
 fn fire_lasts(p: Panel, minute: Minute) -> bool
     requires { SectionFits p × FireFits p }
     ensures { result ≡ time_test p minute 1 }

@@ -29,14 +29,14 @@ fn last_passing(accepted: Accepted) -> u64
     c.depth
 }
 
-// The last second whose depth is no deeper than the last to which every depth passes, of the fire on the first face.
+// The last second whose depth is no deeper than the last to which every depth passes, of the fire on the first face. The cast is kept as it
+// is: `try_from` would add a branch that never runs.
 pub(crate) fn fire_seconds(accepted: Accepted) -> u16
     ensures { result ≡ load_seconds accepted }
 {
     let last = last_passing(accepted);
     let fire = Fire::of(accepted.panel());
     let beyond = 60 * u64::from(LAST_MINUTE) + 1;
-    // The cast is kept as it is: `try_from` would add a branch that never runs.
     last_keeping(
         beyond,
         |second| u64::from(fire.tenths(Time::second(second))) <= last,

@@ -1,4 +1,5 @@
--- Tests joined by "and" and "or", and the range test.
+-- Tests joined by "and" and "or", and the range test. What std has of them is cited from there; `or_assoc`, `and_assoc` and those of
+-- `T` stand in the kit too, in files that keep them private or that no crate may cite, and so are kept as they are.
 use Rattle.std.proofs.lemmas.Bool.{or_parts}
 use Prim.Native.Nat.{ℕ, ◌≤◌}
 use mathlib.Core.Path.{◌≡◌, refl}

@@ -7,7 +7,7 @@ use native.Mathlib.Nat.{add-zero, zero-add, add-suc, suc-add}
 use lib.ListN.{length, take, drop, set, length-drop}
 use lib.Seq.{drop-drop, drop-length, take_all, sets, sets-eq}
 
--- the part from a on, as a slice is taken, is what drop leaves
+-- the part from a on, as a slice is taken, is what drop leaves; kept as it is, since of the kit's crates bitflags alone has it
 pub part_to_end : (l : List ℕ) (a : ℕ) → take (length l - a) (drop a l) ≡ drop a l
 part_to_end l a = take_all (length l - a) (drop a l) (simp length-drop (omega arith))
 

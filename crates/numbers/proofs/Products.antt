@@ -1,4 +1,5 @@
--- A bound on a product from bounds on its factors, all numbers written out so that omega can be handed it.
+-- A bound on a product from bounds on its factors. It is kept as it is beside `mul-le-mul`: all numbers are written out, so that omega can
+-- be handed it.
 use Prim.Native.Nat.{ℕ, ◌*◌, ◌≤◌}
 use native.Mathlib.Nat.{mul-le-mul}
 

@@ -11,7 +11,7 @@ use limits::refusal::Refusal;
 use load::minutes::load_minute_of;
 use panel::Panel;
 
-// The grade of the load minute.
+// The grade of the load minute. The check and the step stay as they are: see `ei` (layers).
 #[tactic(auto, using(limits::proofs::FirstLine::handed_on, limits::proofs::FirstLine::worked_out), unfolding(crate::specs::Answers::graded, limits::specs::Answers::accepted_answer))]
 pub fn load_grade(p: Panel) -> Result<Grade, Refusal>
     ensures { by_number result ≡ graded load_grade p }
@@ -20,7 +20,7 @@ pub fn load_grade(p: Panel) -> Result<Grade, Refusal>
     Ok(Grade::of(load_minute_of(accepted)))
 }
 
-// The grade of EI.
+// The grade of EI. The check and the step stay as they are: see `ei` (layers).
 #[tactic(auto, using(limits::proofs::FirstLine::handed_on, limits::proofs::FirstLine::worked_out), unfolding(crate::specs::Answers::graded, limits::specs::Answers::accepted_answer))]
 pub fn ei_grade(p: Panel) -> Result<Grade, Refusal>
     ensures { by_number result ≡ graded ei_grade p }
