@@ -1,20 +1,19 @@
 -- `section::carry::step_of` meets its contract: each branch is a case of the step. Assumes nothing.
-use Prim.Native.Nat.{ℕ, ◌<◌}
-use mathlib.Core.Bool.{true}
-use mathlib.Core.Path.{◌≡◌, sym, ap, ◌∙◌}
+use Prim.Native.Nat.{◌<◌}
+use mathlib.Core.Path.{sym, ap, ◌∙◌}
 use native.Mathlib.Omega.{arith}
 use borrow.Author.Tests.{leb-true, leb-false}
-use Rattle.section.specs.declared.Section.{Section}
-use Rattle.section.specs.Carried.{without, cuts_part}
-use Rattle.section.specs.Carrying.{HoldsPart, StepFits}
+use Rattle.section.specs.Carried.{without}
+use Rattle.section.specs.Carrying.{HoldsPart}
 use Rattle.section.proofs.Carrying.{cuts_when, holds_tenth, step_moves, step_drops, step_stays}
 use Rattle.section.proofs.carry.step_of.Goals as goal
+use Rattle.section.proofs.carry.step_of.Goals.{Else-not-s-end}
 
 -- past that, the sums have what lies from lo to the end of the lamella being cut
-held : (s : Section) (end : ℕ) → StepFits s end → cuts_part s end ≡ true → (0 < s.n) × ((s.lo < end) × HoldsPart s end)
-held s end fits e =
-    let cut = cuts_when s end e in
-    (cut.0, (cut.1, fits cut.0 cut.1))
+held : (c : Else-not-s-end) → (0 < c.args.s.n) × ((c.args.s.lo < c.args.end) × HoldsPart c.args.s c.args.end)
+held c =
+    let cut = cuts_when c.args.s c.args.end c.if-not-s-end.false in
+    (cut.0, (cut.1, c.requires cut.0 cut.1))
 
 pub returns-then-not-s-end : goal.returns-then-not-s-end
 returns-then-not-s-end c =
@@ -23,7 +22,7 @@ returns-then-not-s-end c =
 pub take_tenth-requires : goal.take_tenth-requires
 take_tenth-requires c =
     let a = c.args in
-    let h = held a.s a.end c.requires c.if-not-s-end.false in
+    let h = held (goal.at.take_tenth-requires c).Else-not-s-end in
     let tenth = holds_tenth a.s a.end h.1.1 h.1.0 in
     record {
       lo_bound = tenth.within;
@@ -33,14 +32,14 @@ take_tenth-requires c =
 pub returns-then-is_enough : goal.returns-then-is_enough
 returns-then-is_enough c =
     let a = c.args in
-    let h = held a.s a.end c.requires c.if-not-s-end.false in
+    let h = held (goal.at.returns-then-is_enough c).Else-not-s-end in
     c.take_tenth.ensures
     ∙ sym (step_moves a.s a.end _ h.0 h.1.0 (leb-true _ _ (sym c.is_enough.ensures ∙ c.if-is_enough.true)))
 
 pub returns : goal.returns
 returns c =
     let a = c.args in
-    let h = held a.s a.end c.requires c.if-not-s-end.false in
+    let h = held (goal.at.returns c).Else-not-s-end in
     c.take_off.ensures
     ∙ ap (without a.s (record { from = a.s.lo; to = a.end })) c.unwrap_or.ensures
     ∙ sym (step_drops a.s a.end _ h.0 h.1.0 (leb-false _ _ (sym c.is_enough.ensures ∙ c.if-is_enough.false)))
