@@ -10,8 +10,8 @@ pub mod carry;
 pub mod sums;
 pub mod test;
 
-// N, P and Q of the counted parts (tenths of mm and their powers), and their outermost ends. All are 0 where nothing is counted, which is
-// so by definition and in stored outputs.
+// N, P and Q of the counted parts (tenths of mm and their powers), and their outermost ends.
+// All are 0 where nothing is counted, which is kept as it is: the definition and stored outputs have it so.
 #[derive(Clone, Copy)]
 pub struct Section {
     pub n: u64,
