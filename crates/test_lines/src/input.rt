@@ -2,9 +2,6 @@
 ghost use Rattle.std.specs.Prelude.{◌≡◌, ◌≤◌, ◌==◌, length, position};
 ghost use Rattle.std.specs.List.{before_first, after_first};
 
-use std::str;
-use std::str::FromStr;
-
 // The place of a line's first blank.
 fn first_blank(line: &[u8]) -> Option<usize>
     ensures { result ≡ position (λ c. c == 32) line.now }
@@ -23,17 +20,25 @@ pub fn split_word(line: &[u8]) -> (&[u8], &[u8])
     }
 }
 
-// The text that these bytes are; an empty one where they are none.
-fn as_text(word: &[u8]) -> &str {
-    str::from_utf8(word).unwrap_or("")
+// A decimal digit's value; 0 for any other character. Digits are kept as they are, read by hand, here and below: `parse` and
+// `from_str_radix` refuse a word with another character, which the test programs read.
+fn decimal_digit(c: u8) -> u32 {
+    match c {
+        b'0'..=b'9' => u32::from(c - b'0'),
+        _ => 0,
+    }
 }
 
-// The decimal number that a word spells; the greatest of the type, which is handed over, where it spells a greater one, or none.
-pub fn number<T: FromStr + Drop>(word: &[u8], greatest: T) -> T
+// The number that a word of decimal digits spells; the greatest of the type, which is handed over, where it spells a greater one. Digits
+// are kept as they are, read by hand.
+pub fn number<T: TryFrom<u32> + Drop>(word: &[u8], greatest: T) -> T
 where
-    T::Err: Drop,
+    T::Error: Drop,
 {
-    as_text(word).parse().unwrap_or(greatest)
+    let spelt = word.iter().fold(0, |n: u32, c| {
+        n.saturating_mul(10).saturating_add(decimal_digit(*c))
+    });
+    T::try_from(spelt).unwrap_or(greatest)
 }
 
 // The same, at most the greatest u16.
@@ -41,13 +46,25 @@ pub fn number16(word: &[u8]) -> u16 {
     number(word, u16::MAX)
 }
 
-// Puts the bytes that a hexadecimal word spells at the start of out, as many as fit, and answers these. A lone `-` spells none.
+// A hexadecimal digit's value; 0 for any other character. Digits are kept as they are, read by hand.
+fn hex_digit(c: u8) -> u8
+    ensures { result ≤ 15 }
+{
+    match c {
+        b'0'..=b'9' => c - b'0',
+        b'a'..=b'f' => c - b'a' + 10,
+        _ => 0,
+    }
+}
+
+// Puts the bytes that a hexadecimal word spells at the start of out, as many as fit, and answers these. A lone `-` spells none. Digits are
+// kept as they are, read by hand.
 pub fn hex_bytes<'a>(word: &[u8], out: &'a mut [u8]) -> &'a [u8]
     ensures { length result.now ≤ length out.old }
 {
     let (pairs, _) = word.as_chunks::<2>();
-    for (byte, pair) in out.iter_mut().zip(pairs) {
-        *byte = u8::from_str_radix(as_text(pair), 16).unwrap_or(0);
+    for (byte, [high, low]) in out.iter_mut().zip(pairs) {
+        *byte = 16 * hex_digit(*high) + hex_digit(*low);
     }
     &out[..pairs.len().min(out.len())]
 }

@@ -4,7 +4,6 @@ use crate::answers::Answer;
 use crate::records::panel_of;
 use panel::Panel;
 use std::io;
-use std::str::FromStr;
 use test_lines::input::{number, split_word};
 use test_lines::output;
 
@@ -65,14 +64,14 @@ impl<'a> Line<'a> {
     }
 
     // Of a call that takes the panel of a record and a number, which stands before it: `greatest` where the word spells a greater one.
-    pub fn by_panel_at<N: FromStr + Drop, T: Answer + Drop, F: FnOnce(Panel, N) -> T>(
+    pub fn by_panel_at<N: TryFrom<u32> + Drop, T: Answer + Drop, F: FnOnce(Panel, N) -> T>(
         self,
         rt: &impl Print,
         greatest: N,
         call: F,
     ) -> io::Result<()>
     where
-        N::Err: Drop,
+        N::Error: Drop,
         requires { F.IsAlwaysCallable call }
     {
         self.by_words(
