@@ -29,8 +29,8 @@ fn last_passing(accepted: Accepted) -> u64
     c.depth
 }
 
-// The last second whose depth is no deeper than the last to which every depth passes, of the fire on the first face. The cast is kept as it
-// is: `try_from` would add a branch that never runs.
+// The last second whose depth is no deeper than the last to which every depth passes, of the fire on the first face.
+// The cast is kept as it is: `try_from` would add a branch that never runs.
 pub(crate) fn fire_seconds(accepted: Accepted) -> u16
     ensures { result ≡ load_seconds accepted }
 {
