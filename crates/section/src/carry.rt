@@ -115,6 +115,7 @@ impl<'a> Carried<'a> {
         }
     }
 
+    // What is tested of it.
     pub fn remaining(self) -> Remaining
         ensures { result.section ≡ self.entry.section }
     {

@@ -71,6 +71,7 @@ impl DesignValues {
         (0 < deep.section.n) & self.is_within(shallow.edge(), deep.inertia())
     }
 
+    // Whether the depth of a section passes.
     #[tactic(auto, unfolding(crate::specs::Between::carries_between, crate::specs::Tests::carries))]
     pub fn section_passes(self, s: Remaining) -> bool
         ensures { result ≡ carries self.factor self.moment self.strength s.section }
