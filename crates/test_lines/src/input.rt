@@ -22,7 +22,9 @@ pub fn split_word(line: &[u8]) -> (&[u8], &[u8])
 
 // A decimal digit's value; 0 for any other character. Digits are kept as they are, read by hand, here and below: `parse` and
 // `from_str_radix` refuse a word with another character, which the test programs read.
-fn decimal_digit(c: u8) -> u32 {
+fn decimal_digit(c: u8) -> u32
+    ensures { result ≤ 9 }
+{
     match c {
         b'0'..=b'9' => u32::from(c - b'0'),
         _ => 0,
