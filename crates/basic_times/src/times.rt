@@ -31,6 +31,8 @@ impl Table {
 }
 
 // No open call: a layer of the material must be allowed the thickness, in tenths of mm. The two are kept as they are: see `bad_thickness`.
+// So are the arms, each of which reads its own table: a function that picks a `Table` was tried, and that what it answers keeps its rule was
+// not proved without an answer that names tables.
 pub fn time_at(role: Role, m: Material, h: u16) -> u32
     requires { ThicknessKeeps m h }
     ensures { (result ≡ basic_time role m h) × (result ≤ longest_time) }

@@ -1,5 +1,5 @@
-// The program `card`, kept as it is, one for each stored input, as `rt ci` takes them: prints the card of the record on standard input,
-// or `REFUSED` and its number. Its stored input is panel G.
+// One of seven programs `card`, which stays as it is: `rt ci` holds a program to one stored input.
+// Prints the card of the record on standard input, or `REFUSED` and its number. Its stored input is panel G.
 #![tactic(auto)]
 
 use std::io;

@@ -23,10 +23,6 @@ short_text table text space h = go (text_refusal table text space)
     go zero = h
     go (suc n) = tt
 
--- and so are its bytes
-pub short_bytes : (a : Result ℕ ℕ) (k : ℕ) → Short a → a ≡ Ok k → k ≤ card_most
-short_bytes a k h e = subst Short e h
-
 -- a number that is not negative is that of bytes written
 pub written_bytes : (table : List Line) (text space : List ℕ) (k : ℕ) → exported (text_answer table text space) ≡ pos k → text_answer table text space ≡ Ok k
 unfolding text_answer
@@ -35,14 +31,3 @@ written_bytes table text space k = go (text_refusal table text space)
     go : (n : ℕ) → exported (answer n Err (Ok (length text))) ≡ pos k → answer n Err (Ok (length text)) ≡ Ok k
     go zero e = let same : length text ≡ k = cc in ap Ok same
     go (suc n) e = absurd (let z : ◌≡◌ {A = ℕ} 0 1 = cc in let w : ⊥ = omega arith in w)
-
--- a refusal's number taken from 0, as the machine takes it
-pub bits_minus : (n : ℕ) → n < 256 → pos 0 -ℤ to_z w32 n ≡ neg_ℤ (pos n)
-bits_minus n h = ap (λ (z : ℤ). pos 0 -ℤ z) (to_z_pos w32 {n = n} (omega arith)) ∙ +ℤ_idl (neg_ℤ (pos n))
-
-minus_fits : (n : ℕ) → n < 256 → SFits w32 (neg_ℤ (pos n))
-minus_fits zero h = record { sfits = omega arith }
-minus_fits (suc n) h = record { sfits = omega arith }
-
-pub bits_minus_fits : (n : ℕ) → n < 256 → SFits w32 (pos 0 -ℤ to_z w32 n)
-bits_minus_fits n h = subst (SFits w32) (sym (bits_minus n h)) (minus_fits n h)

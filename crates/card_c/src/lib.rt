@@ -12,8 +12,8 @@ use limits::refusal::Refusal;
 use planing::Cut;
 use planing::search::least_cut;
 
-// An answer as one number. No open call: the bytes written must be those of a card at most. The number is kept as it is, and so is its
-// cast: a C function answers one `int32_t`, and by the clause before it the number fits.
+// An answer as one number. No open call: the bytes written must be those of a card at most. The number and its cast are kept as they are: C
+// is answered one `int32_t`, which holds the bytes by what is required; `try_from` would add a branch that never runs.
 fn number_of(answer: Result<usize, Refusal>) -> i32
     requires { Short (by_number answer) }
     ensures { result ≡ exported (by_number answer) }

@@ -1,5 +1,6 @@
 // The static library for programs in C: one export for each function of `card_c`, with its clauses. `c/yurbantse.h` declares them. They ask
-// nothing of their caller.
+// nothing of their caller. The three and their clauses are kept as they are beside those of `card_c`: a crate is a library or a static
+// library and not both, and demands stands on `card_c`.
 #![tactic(auto)]
 
 ghost use Rattle.std.specs.Prelude.{◌≡◌};

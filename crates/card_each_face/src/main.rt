@@ -1,5 +1,5 @@
-// The program `card`, kept as it is, one for each stored input, as `rt ci` takes them: held to what it prints for a fire on each face
-// alone: the lesser R comes from the one, the lesser EI from the other.
+// One of seven programs `card`, which stays as it is: `rt ci` holds a program to one stored input.
+// Held to what it prints for a fire on each face alone: the lesser R comes from the one, the lesser EI from the other.
 #![tactic(auto)]
 
 use std::io;

@@ -1,5 +1,5 @@
-// The program `card`, kept as it is, one for each stored input, as `rt ci` takes them: held to what it prints for a record of version 2
-// with its fire on the last face.
+// One of seven programs `card`, which stays as it is: `rt ci` holds a program to one stored input.
+// Held to what it prints for a record of version 2 with its fire on the last face.
 #![tactic(auto)]
 
 use std::io;

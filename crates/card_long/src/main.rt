@@ -1,5 +1,5 @@
-// The program `card`, kept as it is, one for each stored input, as `rt ci` takes them: held to what it prints for an input one byte
-// longer than the longest record, which it begins with.
+// One of seven programs `card`, which stays as it is: `rt ci` holds a program to one stored input.
+// Held to what it prints for an input one byte longer than the longest record, which it begins with.
 #![tactic(auto)]
 
 use std::io;

@@ -17,8 +17,8 @@ use texts::text_for;
 // One byte more than the longest record has, and some to spare.
 const ROOM: usize = 64;
 
-// What of the input fits into the space. No open call: there is room for one byte more than the longest record has, so that what is printed
-// for the bytes read is what is printed for the whole input.
+// What of the input fits into the space, which has room for one byte more than the longest record: so what is printed for the bytes read is
+// what is printed for the whole input.
 fn read_input<'a>(input: &mut impl Read, space: &'a mut [u8; ROOM]) -> &'a [u8]
     ensures { SpeaksForAll ROOM result.now }
 {

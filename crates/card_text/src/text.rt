@@ -1,9 +1,11 @@
-// A text of at most N bytes: numbers and lines are added at its end.
+// A text of at most N bytes: numbers and lines are added at its end. What each adds asks for room, which stays as it is: no type says how much
+// is still free.
 ghost use Rattle.std.specs.Prelude.{◌≡◌, ℕ, ◌+◌, ◌*◌, ◌<◌, ◌≤◌, List, [], ◌∷◌, ◌++◌, length, take, drop};
 ghost use Rattle.card_text.specs.Text.{decimal, text_fields, text_line, time_line};
 
 use std::marker::Model;
 
+// The bytes and how many are used are kept as they are, side by side: a `Vec` or a `String` wants a heap.
 #[derive(Drop)]
 pub struct Text<const N: usize> {
     bytes: [u8; N],

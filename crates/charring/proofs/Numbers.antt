@@ -3,7 +3,8 @@ use Prim.Native.Nat.{◌-◌, ◌≤◌}
 use native.Mathlib.Omega.{arith}
 use Rattle.panel.specs.declared.Panel.{Panel}
 use Rattle.panel.specs.Timber.{rate_of}
-use Rattle.charring.specs.Fires.{start_of, failure_of, k2, slow_rate, depth_at_failure, first_end}
+use Rattle.charring.specs.Fires.{start_of, failure_of, k2, slow_rate, plain_rate, depth_at_failure, first_end, back_face}
+use Rattle.charring.specs.Depths.{full_at}
 use Rattle.charring.specs.Fits.{FireFits}
 use Rattle.numbers.proofs.Products.{times}
 use Rattle.charring.proofs.FirstRun.{first_end_run}
@@ -18,3 +19,28 @@ depth_most p h =
 
 pub end_most : (p : Panel) → FireFits p → first_end p ≤ 385000000000
 end_most p h = omega (arith, first_end_run p, depth_most p h)
+
+-- every number that is the same at every minute
+pub record Bounded (p : Panel) : Type 0 where
+  pub failure : failure_of p ≤ 360000
+  pub slow : slow_rate p ≤ 1000000
+  pub plain : plain_rate p ≤ 1000000
+  pub depth : depth_at_failure p ≤ 360000000000
+  -- 25 mm past the depth at t_f
+  pub end : first_end p ≤ 385000000000
+  pub back : back_face p ≤ 400000000000
+  pub least : 20000 ≤ full_at p
+  pub full : full_at p ≤ 112000
+
+pub fire_bounds : (p : Panel) → FireFits p → Bounded p
+fire_bounds p h =
+    record {
+      failure = h.failure;
+      slow = slow_most p h;
+      plain = omega (arith, h.rate);
+      depth = depth_most p h;
+      end = end_most p h;
+      back = omega (arith, h.thick);
+      least = omega arith;
+      full = omega (arith, h.start);
+    }

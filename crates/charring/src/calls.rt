@@ -14,7 +14,8 @@ use limits::refusal::Refusal;
 use limits::table::refuse_if;
 use panel::Panel;
 
-// Lines 2, 16 and 3 to 13 of a panel, then line 15 of a minute.
+// Lines 2, 16 and 3 to 13 of a panel, then line 15 of a minute. The panel and the minute are kept as they are, two parameters, here and below:
+// what the open calls are asked for.
 pub fn asked(p: Panel, minute: u16) -> Result<Accepted, Refusal>
     ensures { by_number result ≡ asked_answer p minute }
 {
@@ -30,7 +31,7 @@ fn shown_fire(accepted: Accepted) -> Fire
     Fire::of(accepted.shown().panel())
 }
 
-// What is worked out of the fire that is shown at a whole minute. No open call: of every fire it must be worked out up to the last minute.
+// What is worked out of the fire that is shown at a whole minute; both are kept as they are: see `asked`. No open call: of every fire it must be worked out up to the last minute.
 fn at_minute<T, F: FnOnce(Fire, u64) -> T>(p: Panel, minute: u16, of: F) -> Result<T, Refusal>
     requires { (fire : Fire) (at : ℕ) → at ≤ last_minute → F.pre of fire at }
     ensures { (value : T) → GivesOnly (F.post of) (shown p) minute value → by_number result ≡ unless_refused (minute_refusal p minute) value }
@@ -39,21 +40,21 @@ fn at_minute<T, F: FnOnce(Fire, u64) -> T>(p: Panel, minute: u16, of: F) -> Resu
     Ok(of(shown_fire(accepted), u64::from(minute)))
 }
 
-// The phase at a whole minute.
+// The phase at a whole minute; both are kept as they are: see `asked`.
 pub fn phase(p: Panel, minute: u16) -> Result<Phase, Refusal>
     ensures { by_number result ≡ phase_answer p minute }
 {
     at_minute(p, minute, |fire, at| fire.phase(Time::minute(at)))
 }
 
-// The char depth at a whole minute, in micrometres, rounded up.
+// The char depth at a whole minute, in micrometres, rounded up; both are kept as they are: see `asked`.
 pub fn char_depth(p: Panel, minute: u16) -> Result<u32, Refusal>
     ensures { by_number result ≡ char_answer p minute }
 {
     at_minute(p, minute, |fire, at| fire.micrometres(at))
 }
 
-// The effective depth at a whole minute, in tenths of mm, rounded up.
+// The effective depth at a whole minute, in tenths of mm, rounded up; both are kept as they are: see `asked`.
 pub fn effective_depth(p: Panel, minute: u16) -> Result<u32, Refusal>
     ensures { by_number result ≡ effective_answer p minute }
 {

@@ -29,8 +29,9 @@ impl<'a> Lines<'a> {
     ghost use Rattle.charring.specs.Fires.{bond_lines};
     ghost use Rattle.charring.specs.Ways.{lines_left};
 
-    // The lines of a panel. Where the bond holds there are none. No open call: the limits must hold. The bond's number is kept as it is: a
-    // panel is plain data, whose raw numbers calls refuse.
+    // The lines of a panel. Where the bond holds there are none. No open call: the limits must hold; what is asked is kept as it is, since a
+    // fire is made of a panel that no `Accepted` need be. The bond's number is kept as it is: a panel is plain data, whose raw numbers calls
+    // refuse. So is the used front of the thicknesses: directions do not matter here, and no `Lamellae` is wanted.
     pub(crate) fn of(p: &'a Panel) -> Lines<'a>
         requires { FireFits p.now }
         ensures { lines_left result ≡ bond_lines p.now }

@@ -39,7 +39,7 @@ impl Fire {
         place.phase_in(place.fast_part(self.back_line()))
     }
 
-    // Four tests, each of another kind, which stay as they are: the first that holds decides.
+    // Three tests, each of another kind, stay as they are: the first that holds decides.
     pub(crate) fn phase(&self, at: Time) -> Phase
         ensures { result ≡ phase_at self.now.panel at.n at.q }
     {

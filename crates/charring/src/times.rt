@@ -14,7 +14,8 @@ impl Time {
         Time { n, q }
     }
 
-    // A whole minute. It and `second` are kept as they are: each says in one line what a call site means.
+    // A whole minute. It and `second` are kept as they are: each says in one line what a call site means. The bare
+    // minute stays as it is, here and in `Fire::micrometres`: a `Minute` would ask more of callers, which count minutes.
     pub fn minute(minute: u64) -> Time
         requires { minute ≤ last_minute }
         ensures { (result.n ≡ minute) × (result.q ≡ 1) }

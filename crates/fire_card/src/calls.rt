@@ -8,7 +8,7 @@ use card_text::text::Text;
 use limits::refusal::Refusal;
 use limits::table::refuse_if;
 
-// Copies a text into the lent space, where it fits; answers how many bytes it has.
+// Copies a text into the lent space, where it fits; answers how many bytes it has, which is kept as it is: see `card`.
 fn deliver(text: &[u8], out: &mut [u8]) -> Result<usize, Refusal>
     ensures value { by_number result ≡ text_answer [] text.now out.old }
     ensures out_after { out.new ≡ text_after [] text.now out.old }
@@ -19,7 +19,7 @@ fn deliver(text: &[u8], out: &mut [u8]) -> Result<usize, Refusal>
     Ok(n)
 }
 
-// The card of a record.
+// The card of a record. The bytes, the space beside them and the number written are kept as they are, for C.
 pub fn card(bytes: &[u8], out: &mut [u8]) -> Result<usize, Refusal>
     ensures value { by_number result ≡ card_answer bytes.now out.old }
     ensures out_after { out.new ≡ card_after bytes.now out.old }

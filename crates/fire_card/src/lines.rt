@@ -1,4 +1,5 @@
-// The lines of a card, one after the other. No open calls: the longest card must fit.
+// The lines of a card, one after the other. No open calls: the longest card must fit. The room that each asks for stays as it is, as in
+// `Text`.
 ghost use Rattle.std.specs.Prelude.{◌≡◌, ◌+◌, ◌≤◌, ◌++◌, length};
 ghost use Rattle.limits.specs.Causes.{last_minute};
 ghost use Rattle.fire_card.specs.Card.{char_line, char_lines, load_lines, rating_lines, text_of_card, card_most};
@@ -12,6 +13,7 @@ use limits::check::Accepted;
 use limits::minute::Minute;
 use load::minutes::{load_seconds_of, minutes_in, seconds_over};
 
+// The bare minute is kept as it is: the line prints it, and the four are constants.
 fn push_char(text: &mut Text<CARD_MOST>, fire: &Fire, minute: u32)
     requires minute_le_last_minute { minute ≤ last_minute }
     requires room { length text.old + 38 ≤ card_most }

@@ -8,7 +8,7 @@ use limits::check::Accepted;
 use limits::refusal::Refusal;
 use panel::Panel;
 
-// The sum of the layer times in hundredths of a minute.
+// The sum of the layer times in hundredths of a minute. The check and the step stay as they are: see `ei`.
 #[tactic(auto, using(limits::proofs::FirstLine::handed_on, limits::proofs::FirstLine::worked_out), unfolding(crate::specs::Answers::ei_sum_answer, limits::specs::Answers::accepted_answer))]
 pub fn ei_sum(p: Panel) -> Result<u32, Refusal>
     ensures { by_number result ≡ ei_sum_answer p }
@@ -17,8 +17,8 @@ pub fn ei_sum(p: Panel) -> Result<u32, Refusal>
     Ok(least_sum_of(accepted))
 }
 
-// EI in whole minutes. A check and a step, as in load's `load_minute` and the other open calls of a panel, are kept as they are: `map` would
-// say no more of them than `?`, and the step differs in each.
+// EI in whole minutes. A check and a step, as in load's `load_minute` and the other open calls of a panel, are kept as they are: the check
+// is one call already, and a function that took the step as a closure would be `Accepted::of(p).map(step)`.
 #[tactic(auto, using(limits::proofs::FirstLine::handed_on, limits::proofs::FirstLine::worked_out), unfolding(crate::specs::Answers::ei_answer, limits::specs::Answers::accepted_answer))]
 pub fn ei(p: Panel) -> Result<u16, Refusal>
     ensures { by_number result ≡ ei_answer p }

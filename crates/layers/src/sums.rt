@@ -14,7 +14,7 @@ use basic_times::times::time_at;
 use panel::boards::material_of;
 use panel::{Board, Cladding, Material, Panel, WHOLE_JOINT};
 
-// With a board more, by protection.
+// With a board more, by protection. It and `with_lamella` are kept as they are: a lamella has a role and no joint, a board a joint and no role.
 #[tactic(auto, unfolding(crate::specs::Layers::with_layer, crate::specs::Layers::time_of, crate::specs::Layers::joint_of))]
 fn with_board(s: u32, b: Board) -> u32
     requires { (s ≤ longest_time) × BoardKeeps b }
@@ -60,7 +60,8 @@ fn protected(s: u32, thicknesses: &[u16]) -> u32
     sum
 }
 
-// No open call: the panel must keep the limits of lines 8, 10 and 11.
+// No open call: the panel must keep the limits of lines 8, 10 and 11. The front of the array is kept as it is: `split_last` would give an
+// `Option` whose `None` never is.
 pub(crate) fn ei_sum_of(p: Panel) -> u32
     requires { Keeps p }
     ensures { result ≡ ei_sum p }

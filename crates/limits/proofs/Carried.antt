@@ -10,6 +10,7 @@ use Rattle.section.specs.Tests.{section_at}
 use Rattle.section.specs.Carried.{carried}
 use Rattle.section.specs.Carrying.{EachThick, LamellaeFit}
 use Rattle.section.proofs.Carrying.{carried_section}
+use Rattle.section.proofs.Lent.{own_lamellae}
 use Rattle.limits.specs.Keeps.{LamellaeKeep}
 use Rattle.limits.specs.Refusals.{panel_refusal}
 use Rattle.limits.proofs.Accepted.{accepted_keeps, accepted_fits}
@@ -25,7 +26,7 @@ accepted_thick p e = each_thick (lamellae p) (accepted_keeps p e).each
 
 -- the lamellae of an accepted panel are what may be carried along
 pub accepted_lamellae : (p : Panel) → panel_refusal p ≡ 0 → LamellaeFit (lamellae p)
-accepted_lamellae p e = record { thickness = (accepted_fits p e).thickness; each = accepted_thick p e }
+accepted_lamellae p e = own_lamellae p (accepted_fits p e) (accepted_thick p e)
 
 -- N, P, Q, lo and hi as carried equal the definition's at every depth, also past the panel's thickness, where nothing is left
 abbrev pub CarriesSection : Panel → Type 0

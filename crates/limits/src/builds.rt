@@ -7,21 +7,22 @@ use crate::check::Accepted;
 use panel::lamellae::Lamellae;
 use panel::{Cladding, Panel};
 
-// Equality stays as it is in these four: the same build leaves fields out and goes by the used places, so that a panel derives none.
+// The derived `==`, which stays as it is, with the promise that it meets the definition.
 fn same_cladding(a: Cladding, b: Cladding) -> bool
     ensures { result ≡ same_cladding a b }
 {
     a == b
 }
 
-// Stays as it is: see above.
+// The slices' own `==`, which stays as it is, with the promise that it meets the definition.
 fn same_lamellae(a: Lamellae<'_>, b: Lamellae<'_>) -> bool
     ensures { result ≡ same_lamellae (lamellae_in a.entry) (lamellae_in b.entry) }
 {
     (a.directions == b.directions) & (a.thicknesses == b.thicknesses)
 }
 
-// Stays as it is: see above. Two panels to compare are kept as they are, too: no pair of which anything else is asked.
+// Equality stays as it is, here and in `is_same_build`: the same build leaves fields out and goes by the used places, so that a panel derives
+// none. Two panels to compare are kept as they are, too: no pair of which anything else is asked.
 fn same_numbers(a: Panel, b: Panel) -> bool
     ensures { result ≡ same_numbers a b }
 {
@@ -32,7 +33,7 @@ fn same_numbers(a: Panel, b: Panel) -> bool
         & (a.failure_time == b.failure_time)
 }
 
-// Stays as it is: see above.
+// It stays as it is: see `same_numbers`.
 pub(crate) fn is_same_build(a: Accepted, b: Accepted) -> bool
     ensures { result ≡ same_build a b }
 {

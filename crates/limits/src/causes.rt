@@ -11,7 +11,7 @@ use panel::materials::bad_thickness;
 use panel::{Board, Cladding, Material, Panel, WHOLE_JOINT};
 use section::test::depth_passes;
 
-// A range, as `bad_rate` is, which stays as it is: each is a line of the table by itself.
+// `bad_version` and `bad_rate` stay as they are: a function over both would be `contains`.
 pub(crate) fn bad_version(p: Panel) -> bool
     ensures { result ≡ bad_version p }
 {
@@ -25,7 +25,7 @@ pub(crate) fn bad_face(p: Panel) -> bool
     (2 < p.face) | ((p.version == 1) & (p.face != 0))
 }
 
-// Raw numbers, kept as they are.
+// Raw numbers, kept as they are: see `bad_face`.
 pub(crate) fn bad_bond_or_gap(p: Panel) -> bool
     ensures { result ≡ bad_bond_or_gap p }
 {
@@ -100,7 +100,7 @@ pub(crate) fn bad_count(count: usize) -> bool
     !(1..=9).contains(&count)
 }
 
-// A raw number, kept as it is.
+// A raw number, kept as it is: see `bad_face`.
 fn bad_lamella(direction: u8, thickness: u16) -> bool
     ensures { result ≡ bad_lamella (lamella direction thickness) }
 {

@@ -37,7 +37,7 @@ impl Model for Accepted {
 
 impl Accepted {
     // A panel that stands in bytes: the panel, or the first line that fits. What the bytes say and the panel are kept as they are, two
-    // parameters: the reader makes each by itself.
+    // parameters: a struct of both would be made for this call and taken apart in it.
     pub fn in_bytes(f: ByteFaults, p: Panel) -> Result<Accepted, Refusal>
         ensures { by_number result ≡ unless_refused (refusal (table_lines f p)) p }
     {
@@ -68,7 +68,8 @@ impl Accepted {
         self.panel
     }
 
-    // The panel with its last face first. `turned` and `shown` are kept as they are: each meets a definition of its own.
+    // The panel with its last face first. `turned` and `shown` are kept as they are: each is one call of
+    // `faces`, which a function over both would be handed.
     pub fn turned(self) -> Accepted
         ensures { result ≡ turned self }
     {
@@ -87,7 +88,8 @@ impl Accepted {
     }
 
     // The lesser of what is worked out of each fire, given as the panel that has it on its first face. No open call: it must be worked out
-    // of every accepted panel. The face is kept as it is, a raw number of the panel.
+    // of every accepted panel. The u32, which holds sums and seconds, is kept as it is: the definitions are numbers, and the least of a type
+    // parameter would be by an order of its own. The face is kept as it is, a raw number of the panel.
     pub fn least_of_fires<F: Fn(Accepted) -> u32>(self, of: F) -> u32
         requires { (p : Panel) → panel_refusal p ≡ 0 → F.pre of p }
         ensures least { (f : Panel → ℕ) → ((p : Panel) (n : ℕ) → F.post of p n → n ≡ f p) → result ≡ least_of f (fires self) }

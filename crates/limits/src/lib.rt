@@ -17,9 +17,9 @@ pub const LAST_MINUTE: u16 = 360;
 // are kept as they are: any of them may hold beside the others, so that they are no kinds of one fault.
 #[derive(Clone, Copy)]
 pub struct ByteFaults {
-    pub length: bool, // stays as it is
-    pub board_count: bool, // stays as it is
-    pub lamella_count: bool, // stays as it is
+    pub length: bool,
+    pub board_count: bool,
+    pub lamella_count: bool,
 }
 
 // A panel alone has no bytes.

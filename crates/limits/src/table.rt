@@ -47,7 +47,7 @@ fn check_lower(p: Panel) -> Result<(), Refusal>
     refuse_if(bad_section(p), Refusal::Section)
 }
 
-// The whole table. Its two parameters stay as they are, too.
+// The whole table. Its two parameters stay as they are: see `Accepted::in_bytes`.
 pub fn check_table(f: ByteFaults, p: Panel) -> Result<(), Refusal>
     ensures { by_number result ≡ checked (table_lines f p) }
 {

@@ -1,5 +1,6 @@
--- Tests joined by "and" and "or", and the range test. What std has of them is cited from there; `or_assoc`, `and_assoc` and those of
--- `T` stand in the kit too, in files that keep them private or that no crate may cite, and so are kept as they are.
+-- Tests joined by "and" and "or", and the range test. What std has of them is cited from there; `or_assoc` and those of `T` stand in the kit
+-- too, in files that keep them private or that no crate may cite, and so are kept as they are. std's `and_left` and `and_right` are of tests
+-- that fail.
 use Rattle.std.proofs.lemmas.Bool.{or_parts}
 use Prim.Native.Nat.{ℕ, ◌≤◌}
 use mathlib.Core.Path.{◌≡◌, refl}
@@ -46,10 +47,6 @@ and_left false b e = e
 pub and_right : (a b : Bool) → (a && b) ≡ true → b ≡ true
 and_right true b e = e
 and_right false b e = absurd (not_both false e refl)
-
-pub and_assoc : (a b c : Bool) → (a && (b && c)) ≡ ((a && b) && c)
-and_assoc true b c = refl
-and_assoc false b c = refl
 
 -- what is not outside a range is within it
 pub in_range : (least greatest x : ℕ) → outside least greatest x ≡ false → (least ≤ x) × (x ≤ greatest)

@@ -2,7 +2,8 @@
 ghost use Rattle.std.specs.Prelude.{◌+◌, ◌<◌, ℕ, true, false};
 
 // By halving, below `beyond`: a number that keeps the test, or 0 untested, and the next does not, or is `beyond`. Of a test that smaller
-// numbers keep too it is the last. No open call: the test must take every number below `beyond`, which is not 0.
+// numbers keep too it is the last. The 0 is kept as it is: it is the number meant. No open call: the test must take every number below
+// `beyond`, which is not 0.
 pub fn last_keeping<F: Fn(u64) -> bool>(beyond: u64, keeps: F) -> u64
     requires beyond_nonzero { 0 < beyond }
     requires callable { (n : ℕ) → n < beyond → F.pre keeps n }

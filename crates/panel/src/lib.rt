@@ -21,7 +21,7 @@ pub enum Material {
 }
 
 // One board. The type is its ASCII letter, the thickness in tenths of mm, the joint coefficient in hundredths. The letter is kept as it is,
-// raw, as what `Panel` has is.
+// raw, as the numbers of a `Panel` are.
 #[derive(Clone, Copy, PartialEq, Eq)]
 pub struct Board {
     pub kind: u8,

@@ -9,7 +9,7 @@ use limits::check::Accepted;
 use limits::refusal::Refusal;
 use panel::Panel;
 
-// The least cut of one lamella that lowers the REI grade, or that no cut does.
+// The least cut of one lamella that lowers the REI grade, or that no cut does. The check and the step stay as they are: see `ei` (layers).
 #[tactic(auto, using(limits::proofs::FirstLine::handed_on, limits::proofs::FirstLine::worked_out), unfolding(crate::specs::Answers::planing_answer, limits::specs::Answers::accepted_answer))]
 pub fn planing(p: Panel) -> Result<Option<Cut>, Refusal>
     ensures { by_number result ≡ planing_answer p }

@@ -50,7 +50,7 @@ impl Rated {
     }
 
     // The index of the lamella behind so many others as seen from the fire: its place less 1. The face is kept as it is, a raw number of the
-    // panel; so is what is asked of `behind`: another number is asked in each of these methods.
+    // panel; so is what is asked of `behind`, here and in `is_lowering`: where the panel has such a lamella is said by its count alone.
     pub(crate) fn index_behind(self, behind: usize) -> usize
         requires { behind < self.panel.count }
         ensures place { result + 1 ≡ place_on self.panel.face self.panel.count behind }

@@ -15,7 +15,8 @@ fn first_behind(rated: Rated, tenths: u16) -> Option<usize>
     (0..rated.panel.count).find(|&behind| rated.is_lowering(behind, tenths))
 }
 
-// The least cut of one lamella that lowers the REI grade, or that no cut does.
+// The least cut of one lamella that lowers the REI grade, or that no cut does. The loop is kept as it is: `find_map` would take a closure that
+// takes one, and the loop's invariant says what was tried, that no smaller amount serves.
 pub fn least_cut(accepted: Accepted) -> Option<Cut>
     ensures { result ≡ planing_of accepted }
 {

@@ -29,7 +29,7 @@ pub fn ei_grade(p: Panel) -> Result<Grade, Refusal>
     Ok(Grade::of(ei_minute_of(accepted)))
 }
 
-// The REI grade, of the lower of R and EI.
+// The REI grade, of the lower of R and EI. The check and the step stay as they are: see `ei` (layers).
 #[tactic(auto, using(limits::proofs::FirstLine::handed_on, limits::proofs::FirstLine::worked_out), unfolding(crate::specs::Answers::graded, limits::specs::Answers::accepted_answer))]
 pub fn rei_grade(p: Panel) -> Result<Grade, Refusal>
     ensures { by_number result ≡ graded rei_grade p }

@@ -61,7 +61,7 @@ pub(crate) fn front(version: u8) -> usize
     if version == 2 { FRONT_2 } else { FRONT_1 }
 }
 
-// What places and lengths depend on: the version, whose number is kept as it is, and c, the number of boards.
+// What places and lengths depend on: the version, whose number is kept as it is: see `front`, and c, the number of boards.
 #[derive(Clone, Copy)]
 pub(crate) struct Layout {
     pub version: u8,

@@ -77,7 +77,8 @@ fn cladding_at(c: u8, t: &[u8]) -> Cladding
     }
 }
 
-// The first n lamellae of the lamella bytes, in arrays that are kept as they are: see `Lamellae`.
+// The first n lamellae of the lamella bytes, in arrays that are kept as they are: see `Lamellae`. The loop counts, since a place past the end
+// reads as 0, which chunks of the slice would not give.
 #[tactic(auto, unfolding(crate::specs::Layouts::lamellae_in))]
 fn lamellae_in(u: &[u8], n: usize) -> Lamellae
     requires { n ≤ 9 }
@@ -104,7 +105,7 @@ fn lamellae_of(s: &[u8]) -> Lamellae
     lamellae_in(part_from(s, from), usize::from(lamella_count(s)).min(9))
 }
 
-// The panel that stands in the bytes; its arrays are kept as they are.
+// The panel that stands in the bytes; its arrays are kept as they are: see `Lamellae`.
 pub(crate) fn panel_of(s: &[u8]) -> Panel
     ensures { result ≡ panel_of s.now }
 {

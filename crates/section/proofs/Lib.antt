@@ -15,5 +15,7 @@ pub mod Carrying
 pub mod Growing
 pub mod NextAlong
 pub mod CarriedAlong
+-- A panel's own lamellae, lent.
+pub mod Lent
 -- Worked panels keep the limits.
 pub mod Worked

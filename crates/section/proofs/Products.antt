@@ -3,9 +3,6 @@
 use Prim.Native.Nat.{ℕ, ◌*◌, ◌≤◌}
 use native.Mathlib.Nat.{mul-le-mul}
 
-pub powers_within : (a : ℕ) → a ≤ 4000 → (a * a ≤ 4000 * 4000) × (a * a * a ≤ 4000 * 4000 * 4000)
-powers_within a h = (mul-le-mul h h, mul-le-mul (mul-le-mul h h) h)
-
 pub square_rises : (a b : ℕ) → a ≤ b → a * a ≤ b * b
 square_rises a b h = mul-le-mul h h
 

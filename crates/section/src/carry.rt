@@ -11,7 +11,8 @@ use crate::{Remaining, Section};
 use panel::lamellae::Lamellae;
 
 // The section of lent lamellae, carried to a depth. Of the lamellae from the exposed face `place` are begun, the last of them ends at `end`,
-// and the next along one begins at `next`.
+// and the next along one begins at `next`. The place is kept as it is: the facts are of all lamellae and of those begun, so that both are
+// wanted, and not the rest alone.
 #[derive(Clone, Copy)]
 pub struct Carried<'a> {
     pub lamellae: Lamellae<'a>,
@@ -48,7 +49,8 @@ fn take_off(s: Section, part: Part, lo: u64) -> Section
     }
 }
 
-// The sums without the first tenth of mm, with which the first part begins; the counted parts begin after it then.
+// The sums without the first tenth of mm, with which the first part begins; the counted parts begin after it then. It is kept as it is beside
+// `take_off`, for speed: nearly every step takes a tenth, and the powers need not be worked out (docs/SPEED.md).
 fn take_tenth(s: Section) -> Section
     requires lo_bound { s.lo + 1 ≤ 4000 }
     requires le_n { (1 ≤ s.n) × ((2 * s.lo + 1 ≤ s.p) × (3 * s.lo * (s.lo + 1) + 1 ≤ s.q)) }

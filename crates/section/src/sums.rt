@@ -129,7 +129,7 @@ pub fn section_in(lamellae: Lamellae<'_>, depth: u32) -> Remaining
     }
 }
 
-// No open call: the panel must keep the limits of lines 5, 10 and 11. That it is asked is kept as it is: a panel is plain data by value.
+// No open call: the panel must keep the limits of lines 5, 10 and 11. What is asked stays as it is: a panel is plain data by value.
 pub fn section_at(p: Panel, depth: u32) -> Remaining
     requires { SectionFits p }
     ensures { result.section ≡ section_at p depth }

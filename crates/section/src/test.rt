@@ -80,7 +80,7 @@ impl DesignValues {
     }
 }
 
-// No open call: the panel must keep the limits of lines 5, 10 and 11. That it is asked is kept as it is: line 13 tests a panel that is not
+// No open call: the panel must keep the limits of lines 5, 10 and 11. What is asked stays as it is: line 13 tests a panel that is not
 // accepted yet.
 pub fn depth_passes(p: Panel, depth: u32) -> bool
     requires { SectionFits p }

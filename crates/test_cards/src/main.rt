@@ -1,5 +1,6 @@
-// The test program, kept as it is, one for each stored input, as `rt ci` takes them: its stored input is about cards, load and the grades
-// of panels: `card`, `refusal`, `load`, `seconds`, `reserve`, `loadgrade`, `eigrade`, `reigrade`.
+// One of six test programs that are alike, which stays as it is: `rt ci` holds a program to one stored input.
+// Its stored input is about cards, load and the grades of panels: `card`, `refusal`, `load`, `seconds`, `reserve`, `loadgrade`, `eigrade`,
+// `reigrade`.
 #![tactic(auto)]
 
 use std::io;

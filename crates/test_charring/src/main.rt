@@ -1,4 +1,5 @@
-// The test program, kept as it is, one for each stored input, as `rt ci` takes them: its stored input is about charring: `char`, `table`.
+// One of six test programs that are alike, which stays as it is: `rt ci` holds a program to one stored input.
+// Its stored input is about charring: `char`, `table`.
 #![tactic(auto)]
 
 use std::io;

@@ -9,7 +9,8 @@ fn first_blank(line: &[u8]) -> Option<usize>
     line.iter().position(|c| *c == b' ')
 }
 
-// A line's first word, up to the first blank, and what follows the blank; nothing where the line is one word.
+// A line's first word, up to the first blank, and what follows the blank; nothing where the line is one word. The two are kept as they are, cut
+// at the place: `split_once` is of `&str` alone.
 pub fn split_word(line: &[u8]) -> (&[u8], &[u8])
     ensures word { result.0.now ≡ before_first (λ c. c == 32) line.now }
     ensures rest { result.1.now ≡ after_first (λ c. c == 32) line.now }
@@ -20,8 +21,7 @@ pub fn split_word(line: &[u8]) -> (&[u8], &[u8])
     }
 }
 
-// A decimal digit's value; 0 for any other character. Digits are kept as they are, read by hand, here and below: `parse` and
-// `from_str_radix` refuse a word with another character, which the test programs read.
+// A decimal digit's value; 0 for any other character. Digits are kept as they are, read by hand: see `hex_digit`.
 fn decimal_digit(c: u8) -> u32
     ensures { result ≤ 9 }
 {
@@ -31,8 +31,8 @@ fn decimal_digit(c: u8) -> u32
     }
 }
 
-// The number that a word of decimal digits spells; the greatest of the type, which is handed over, where it spells a greater one. Digits
-// are kept as they are, read by hand.
+// The number that a word of decimal digits spells, at most the greatest u32; `greatest` where the type has no room for it. Digits are kept as
+// they are, read by hand: see `hex_digit`.
 pub fn number<T: TryFrom<u32> + Drop>(word: &[u8], greatest: T) -> T
 where
     T::Error: Drop,
@@ -48,7 +48,8 @@ pub fn number16(word: &[u8]) -> u16 {
     number(word, u16::MAX)
 }
 
-// A hexadecimal digit's value; 0 for any other character. Digits are kept as they are, read by hand.
+// A hexadecimal digit's value; 0 for any other character. It is kept as it is, read by hand: `to_digit` and `from_str_radix` read capitals too,
+// and `parse` refuses a whole word for one other character; the test programs read both as 0.
 fn hex_digit(c: u8) -> u8
     ensures { result ≤ 15 }
 {
@@ -60,7 +61,7 @@ fn hex_digit(c: u8) -> u8
 }
 
 // Puts the bytes that a hexadecimal word spells at the start of out, as many as fit, and answers these. A lone `-` spells none. Digits are
-// kept as they are, read by hand.
+// kept as they are: see `hex_digit`.
 pub fn hex_bytes<'a>(word: &[u8], out: &'a mut [u8]) -> &'a [u8]
     ensures { length result.now ≤ length out.old }
 {

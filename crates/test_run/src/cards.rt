@@ -8,7 +8,8 @@ use std::io;
 use test_lines::input::{hex_bytes, number};
 use test_lines::output;
 
-// What a call answers that writes a text, and the 200 bytes.
+// What a call answers that writes a text, and the 200 bytes. It is kept as it is beside that of writes: each is printed in another way. The
+// front is cut out by the number that an open call answers.
 #[derive(Drop)]
 pub struct Written {
     answer: Result<usize, Refusal>,

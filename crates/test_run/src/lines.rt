@@ -63,7 +63,7 @@ impl<'a> Line<'a> {
         self.by_word(rt, |record| call(panel_of(record)))
     }
 
-    // Of a call that takes the panel of a record and a number, which stands before it: `greatest` where the word spells a greater one.
+    // Of a call that takes the panel of a record and a number, which stands before it: `greatest` where N has no room for what the word spells.
     pub fn by_panel_at<N: TryFrom<u32> + Drop, T: Answer + Drop, F: FnOnce(Panel, N) -> T>(
         self,
         rt: &impl Print,

@@ -25,6 +25,7 @@ fn carried_to(fire: Accepted, depth: u64) -> Remaining
 }
 
 // The steps of the open call `section`, which stay as they are: what is tested is that the carried section and its test are the call's.
+// The pair is that call's own, and stays as it is with it.
 pub fn carried_answer(p: Panel, depth: u32) -> Result<(Section, bool), Refusal> {
     let fire = Accepted::of(p)?.shown();
     let s = carried_to(fire, u64::from(depth));

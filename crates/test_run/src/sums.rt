@@ -4,6 +4,7 @@ use limits::refusal::Refusal;
 use panel::Panel;
 use std::fmt;
 
+// It stays as it is beside load's `MinutesAndSeconds`: two numbers too, of other things.
 #[derive(Clone, Copy)]
 pub struct LayerTimes {
     sum: u32,

@@ -37,7 +37,7 @@ impl Answer for Filled {
     }
 }
 
-// As `write` of `writes`, and kept as it is: the one fills numbers and the other bytes, each printed its own way, and what is lent is one line.
+// Kept as it is beside `write` of `writes`: each is one call of `lend`, and its answer has its own `impl Answer`.
 pub fn fill(p: Panel, space: usize) -> Filled {
     let (answer, entries) = lend([7; 400], space, |out| charring::calls::depth_table(p, out));
     Filled { answer, entries }
