@@ -914,7 +914,10 @@ def reasons():
     for x in FILES:
         lines = set()
         for i, line in enumerate(x.lines):
-            if "//" in line and REASON.search(line):
+            words = line.split("//", 1)[1] if "//" in line else ""
+            if i + 1 < len(x.lines) and words and x.lines[i + 1].lstrip().startswith("//"):  # a reason may go on in the next line
+                words += " " + x.lines[i + 1].lstrip()[2:].lstrip()
+            if REASON.search(words):
                 j = i + 1
                 while j < len(x.lines) and x.lines[j].lstrip().startswith(("//", "#[")):  # attributes stand between
                     j += 1
