@@ -31,8 +31,8 @@ fn decimal_digit(c: u8) -> u32
     }
 }
 
-// The number that a word of decimal digits spells, at most the greatest u32; `greatest` where the type has no room for it. Digits are kept as
-// they are, read by hand: see `hex_digit`.
+// The number that a word of decimal digits spells, at most the greatest u32; `greatest` where the type has no room for it.
+// Digits are kept as they are, read by hand: see `hex_digit`.
 pub fn number<T: TryFrom<u32> + Drop>(word: &[u8], greatest: T) -> T
 where
     T::Error: Drop,

@@ -8,7 +8,7 @@ use limits::refusal::Refusal;
 use panel::{Board, Cladding, Panel};
 use std::io;
 use test_lines::output;
-use test_run::answers::{Answer, Parts, same_word};
+use test_run::answers::{Answer, Parts, Same};
 
 // The refusal's number, 0 where there is none, which is kept as it is: the stored output has it so.
 fn number_of<T: Drop>(answer: Result<T, Refusal>) -> u8 {
@@ -68,7 +68,7 @@ fn print_char(rt: &impl Print, p: Panel, minute: u16, name: &[u8]) -> io::Result
 }
 
 fn print_build(rt: &impl Print, a: Panel, b: Panel, name: &[u8]) -> io::Result<()> {
-    print_answer(rt, limits::calls::same_build(a, b).map(same_word), name)
+    print_answer(rt, limits::calls::same_build(a, b).map(Same), name)
 }
 
 // The panel's arrays and raw numbers are kept as they are, here and below: a panel is plain data, whose numbers the calls refuse.

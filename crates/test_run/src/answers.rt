@@ -40,12 +40,17 @@ impl<T: Answer> Answer for Option<T> {
 }
 
 // Whether two panels are the same build.
-pub fn same_word(same: bool) -> &'static str {
-    if same { "same" } else { "different" }
+#[derive(Clone, Copy)]
+pub struct Same(pub bool);
+
+impl fmt::Display for Same {
+    fn fmt<W: fmt::Write>(&self, f: &mut fmt::Formatter<W>) -> fmt::Result {
+        f.write_str(if self.0 { "same" } else { "different" })
+    }
 }
 
 // A grade, in minutes.
-pub fn minutes(grade: Grade) -> u16
+pub(crate) fn minutes(grade: Grade) -> u16
     ensures { result ≡ grade.minutes }
 {
     grade.minutes

@@ -27,7 +27,7 @@ mod tables;
 mod times;
 mod writes;
 
-use answers::{LeastCut, Tested, Time, minutes, same_word};
+use answers::{LeastCut, Same, Tested, Time, minutes};
 use grades::calls::{grade_of, rei_of};
 use lent_input::read_full;
 use limits::calls::{same_build, section};
@@ -46,10 +46,7 @@ fn answer(rt: &impl Print, text: &[u8]) -> io::Result<()> {
     match line.word {
         b"read" => line.by_word(rt, reads::read),
         b"write" => line.by_panel_at(rt, usize::MAX, writes::write),
-        b"build" => line.by_words(
-            rt,
-            |a, b| same_build(panel_of(a), panel_of(b)).map(same_word),
-        ),
+        b"build" => line.by_words(rt, |a, b| same_build(panel_of(a), panel_of(b)).map(Same)),
         b"section" => line.by_panel_at(rt, u32::MAX, |p, depth| section(p, depth).map(Tested)),
         b"carried" => line.by_panel_at(
             rt,
