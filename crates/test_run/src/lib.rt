@@ -38,23 +38,25 @@ use ratings::calls::{ei_grade, load_grade, rei_grade};
 use records::panel_of;
 use sections::carried_answer;
 use std::io;
-use test_lines::input::number16;
+use test_lines::input::{number, number16};
 use test_lines::output;
 
 fn answer(rt: &impl Print, text: &[u8]) -> io::Result<()> {
     let line = Line::of(text);
     match line.word {
         b"read" => line.by_word(rt, reads::read),
-        b"write" => line.by_panel_at(rt, usize::MAX, writes::write),
+        b"write" => line.by_panel_at(rt, |p, space| writes::write(p, number(space, usize::MAX))),
         b"build" => line.by_words(rt, |a, b| same_build(panel_of(a), panel_of(b)).map(Same)),
-        b"section" => line.by_panel_at(rt, u32::MAX, |p, depth| section(p, depth).map(Tested)),
+        b"section" => line.by_panel_at(
+            rt,
+            |p, depth| section(p, number(depth, u32::MAX)).map(Tested),
+        ),
         b"carried" => line.by_panel_at(
             rt,
-            u32::MAX,
-            |p, depth| carried_answer(p, depth).map(Tested),
+            |p, depth| carried_answer(p, number(depth, u32::MAX)).map(Tested),
         ),
-        b"char" => line.by_panel_at(rt, u16::MAX, chars::at_minute),
-        b"table" => line.by_panel_at(rt, usize::MAX, tables::fill),
+        b"char" => line.by_panel_at(rt, |p, minute| chars::at_minute(p, number16(minute))),
+        b"table" => line.by_panel_at(rt, |p, space| tables::fill(p, number(space, usize::MAX))),
         b"time" => line.by_words(rt, |kind, h| times::time(kind, number16(h))),
         b"sum" => line.by_panel(rt, sums::layer_times),
         b"grade" => line.by_word(rt, |minute| grade_of(number16(minute)).map(minutes)),

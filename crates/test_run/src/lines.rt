@@ -4,7 +4,7 @@ use crate::answers::Answer;
 use crate::records::panel_of;
 use panel::Panel;
 use std::io;
-use test_lines::input::{number, split_word};
+use test_lines::input::split_word;
 use test_lines::output;
 
 #[derive(Clone, Copy)]
@@ -63,20 +63,14 @@ impl<'a> Line<'a> {
         self.by_word(rt, |record| call(panel_of(record)))
     }
 
-    // Of a call that takes the panel of a record and a number, which stands before it: `greatest` where N has no room for what the word spells.
-    pub fn by_panel_at<N: TryFrom<u32> + Drop, T: Answer + Drop, F: FnOnce(Panel, N) -> T>(
+    // Of a call that takes the panel of a record and a number, whose word stands before it.
+    pub fn by_panel_at<T: Answer + Drop, F: FnOnce(Panel, &[u8]) -> T>(
         self,
         rt: &impl Print,
-        greatest: N,
         call: F,
     ) -> io::Result<()>
-    where
-        N::Error: Drop,
         requires { F.IsAlwaysCallable call }
     {
-        self.by_words(
-            rt,
-            |at, record| call(panel_of(record), number(at, greatest)),
-        )
+        self.by_words(rt, |at, record| call(panel_of(record), at))
     }
 }
