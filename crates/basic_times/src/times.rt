@@ -21,7 +21,8 @@ pub(crate) struct Table {
 }
 
 impl Table {
-    // No open call: a layer of the material must be allowed the thickness.
+    // No open call: a layer of the material must be allowed the thickness, which is kept as it is, here and in `time_at` and what layers asks
+    // of a lamella: a thickness is a raw number of the panel, and of an accepted one `Keeps` says it.
     fn at(self, h: u16) -> u32
         requires { ThicknessKeeps self.material h }
         ensures { (result ≡ basic_time self.role self.material h) × (result ≤ longest_time) }

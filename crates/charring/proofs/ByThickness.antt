@@ -1,16 +1,15 @@
 -- Bond lines by thicknesses alone: directions do not matter.
-use Prim.Native.Nat.{ℕ, zero, suc, ◌+◌, ◌*◌, ◌<◌, ◌≤◌, min}
-use mathlib.Core.Path.{◌≡◌, refl, sym, ap, ◌∙◌}
+use Prim.Native.Nat.{ℕ, ◌+◌, ◌*◌, ◌<◌, ◌≤◌, min}
+use mathlib.Core.Path.{◌≡◌, refl, ap}
 use mathlib.Core.Bool.{Bool, true, false}
-use mathlib.Core.List.{List, [], ◌∷◌, ◌++◌, map, map-append}
+use mathlib.Core.List.{List, [], ◌∷◌, map}
 use native.Mathlib.Omega.{arith}
 use lib.ListN.{length, take, get_or}
 use lib.Dec.{eqb}
-use lib.Seq.{take-suc}
 use borrow.Author.Tests.{eqb-true}
-use Rattle.numbers.specs.Firsts.{firsts}
+use Rattle.panel.proofs.Used.{thicknesses_lamellae_of}
 use Rattle.panel.specs.declared.Panel.{Panel}
-use Rattle.panel.specs.Lamellae.{Lamella, lamella, lamellae, lamellae_of, thickness}
+use Rattle.panel.specs.Lamellae.{Lamella, lamellae, thickness}
 use Rattle.charring.specs.Fires.{tenth, fast_run, lines_from, line_end, bond_lines}
 use Rattle.charring.specs.Fits.{FireFits}
 use Rattle.charring.specs.Lines.{by_thickness}
@@ -60,24 +59,15 @@ unfolding thickness
 same_thickness [] = refl
 same_thickness (l ∷ ls) = ap (λ (x : ℕ). l.thickness + x) (same_thickness ls)
 
--- the thicknesses of the first n lamellae are the first n places
-first_thicknesses : (gs ts : List ℕ) (n : ℕ) → n ≤ length ts → thicknesses (lamellae_of gs ts n) ≡ take n ts
-unfolding lamellae_of firsts
-first_thicknesses gs ts zero h = refl
-first_thicknesses gs ts (suc n) h =
-    map-append (λ (l : Lamella). l.thickness) (lamellae_of gs ts n) (lamella (get_or gs n 0) (get_or ts n 0) ∷ [])
-    ∙ ap (λ (xs : List ℕ). xs ++ (get_or ts n 0 ∷ [])) (first_thicknesses gs ts n (omega arith))
-    ∙ sym (take-suc ts n 0 (omega arith))
-
 module _ (p : Panel) (h : p.count ≤ length p.thicknesses) where
   pub within_panel : FireFits p → 0 + tenth * thickness (by_thickness (take p.count p.thicknesses)) ≤ 400000000000
   within_panel k =
-      rw (← first_thicknesses p.directions p.thicknesses p.count h, same_thickness (lamellae p))
+      rw (← thicknesses_lamellae_of p.directions p.thicknesses p.count h, same_thickness (lamellae p))
       (omega (arith, k.thick))
 
   pub lines_of_panel : p.bond ≡ 1 → lines_from 0 (by_thickness (take p.count p.thicknesses)) ≡ bond_lines p
   unfolding bond_lines
-  lines_of_panel e = rw (e, ← first_thicknesses p.directions p.thicknesses p.count h) (same_lines 0 (lamellae p))
+  lines_of_panel e = rw (e, ← thicknesses_lamellae_of p.directions p.thicknesses p.count h) (same_lines 0 (lamellae p))
 
 pub no_lines : (p : Panel) → (p.bond ≡ 1 → ⊥) → lines_from 0 (by_thickness []) ≡ bond_lines p
 unfolding lines_from bond_lines

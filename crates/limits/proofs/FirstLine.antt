@@ -1,11 +1,12 @@
 -- A table of lines: the refusal is the first line that fits.
-use Prim.Native.Nat.{ℕ, zero, suc, ◌<◌}
+use Prim.Native.Nat.{ℕ, zero, suc, ◌<◌, ◌≤◌}
 use mathlib.Core.Path.{◌≡◌, refl, sym, ap, ◌∙◌}
 use mathlib.Core.List.{List, [], ◌∷◌, ◌++◌}
 use mathlib.Core.Bool.{Bool, true, false, cond}
 use mathlib.Core.Logic.{◌↔◌}
 use native.Mathlib.Omega.{arith}
 use lib.Dec.{T, eqb, ltb, ltb→lt}
+use borrow.Author.Tests.{ltb-false}
 use Rattle.numbers.specs.Choice.{pick}
 use Rattle.numbers.proofs.Booleans.{IsTrue-left, IsTrue-right}
 use Rattle.std.specs.Prelude.{Result, Ok, Err, IsErrAnd}
@@ -225,6 +226,10 @@ call_line table t z fits r e = ap by_number e ∙ line_alone fits r ∙ checked_
 pub not_fitting : (fits : Bool) (refusal : Refusal) → Ok tt ≡ refused_if fits refusal → fits ≡ false
 not_fitting true refusal e = cc
 not_fitting false refusal e = refl
+
+-- a line about too few that does not refuse: there are enough
+pub enough : (some wanted : ℕ) (refusal : Refusal) → Ok tt ≡ refused_if (ltb some wanted) refusal → wanted ≤ some
+enough some wanted refusal e = ltb-false some wanted (not_fitting (ltb some wanted) refusal e)
 
 -- what is worked out of what was accepted is what the call answers
 pub worked_out : {A B : Type 0} (n : ℕ) (f : A → B) (value : A) {x : A} {y : B} → Ok x ≡ unless_refused n value → y ≡ f x → Ok y ≡ unless_refused n (f value)

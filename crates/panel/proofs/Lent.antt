@@ -24,6 +24,10 @@ use Rattle.panel.specs.declared.Panel.{Panel}
 use Rattle.panel.specs.Lent.{lamellae_in}
 use Rattle.panel.proofs.Used.{length_lamellae_of, get_or_lamellae_of, directions_lamellae_of, thicknesses_lamellae_of}
 
+-- as many lamellae as directions
+pub length_in : (l : Lamellae) → length (lamellae_in l) ≡ length l.directions.now
+length_in l = length_lamellae_of l.directions.now l.thicknesses.now (length l.directions.now)
+
 module _ (l : Lamellae) (xs : List (Bor ℕ × Bor ℕ)) (s t u : Zip (Iter ℕ) (Iter ℕ)) (r : Option (Bor ℕ × Bor ℕ))
     (first : iter_rest (zip_first s) ≡ l.directions.now) (second : iter_rest (zip_second s) ≡ l.thicknesses.now)
     (y : Yields (zips fronts fronts) s xs t) (step : zips fronts fronts t r u) where
@@ -33,7 +37,7 @@ module _ (l : Lamellae) (xs : List (Bor ℕ × Bor ℕ)) (s t u : Zip (Iter ℕ)
   next_lamella p e =
       let turn = zip_turn l.directions.now l.thicknesses.now xs s t u r first second y p e step in
       let n = length l.directions.now in (
-        omega (arith, turn.0, length_lamellae_of l.directions.now l.thicknesses.now n),
+        omega (arith, turn.0, length_in l),
         get_or_lamellae_of l.directions.now l.thicknesses.now n (length xs) turn.0
             ∙ sym (ap₂ lamella (turn.2 0) (turn.3 0)),
       )
@@ -44,7 +48,7 @@ module _ (l : Lamellae) (xs : List (Bor ℕ × Bor ℕ)) (s t u : Zip (Iter ℕ)
         arith,
         zip_end l.directions.now l.thicknesses.now xs s t u r first second y e step,
         l.aligned,
-        length_lamellae_of l.directions.now l.thicknesses.now (length l.directions.now),
+        length_in l,
       )
 
 -- Chains over lent lamellae

@@ -17,7 +17,7 @@ pub fn is_known(b: Board) -> bool
     matches!(b.kind, b'A' | b'F' | b'H') || is_wood_based(b)
 }
 
-// What boards of a type are made of. The type, here and in `is_f`, and the gap below are numbers that are kept as they are: a panel is plain
+// What boards of a type are made of. The type, here, above and in `is_f`, and the gap below are numbers that are kept as they are: a panel is plain
 // data, whose raw numbers calls refuse.
 #[tactic(auto, unfolding(crate::specs::Boards::material_of))]
 pub fn material_of(kind: u8) -> Material

@@ -2,13 +2,12 @@
 use Rattle.std.proofs.Common.{◌≤◌, ◌++◌, length, drop, sym, ap, ◌∙◌}
 use Rattle.charring.proofs.Replies.{short, table_turned, table_filled}
 use Rattle.charring.specs.Answers.{depth_table, table_refusal}
-use Rattle.limits.proofs.FirstLine.{turned_above, accepted_with, refused_with, handed, call_line, not_fitting}
+use Rattle.limits.proofs.FirstLine.{turned_above, accepted_with, refused_with, handed, call_line, enough}
 use Rattle.limits.specs.Answers.{accepted_answer}
 use Rattle.limits.specs.Refusals.{panel_lines, panel_refusal}
 use Rattle.limits.specs.declared.refusal.Refusal.TheVariants.{Space}
 use Rattle.panel.specs.Faces.{shown}
 use Rattle.panel.specs.declared.Panel.{Panel}
-use borrow.Author.Tests.{ltb-false}
 use lib.Dec.{ltb}
 use Rattle.charring.proofs.calls.depth_table.Goals as goal
 
@@ -31,14 +30,14 @@ returns-in_err-refuse_if c =
     record { value = handed _ residual.result residual.ensures.1 ∙ both.0; out_after = both.1 }
 
 pub fill-requires : goal.fill-requires
-fill-requires c = ltb-false (length c.args.out.now) 361 (not_fitting (ltb (length c.args.out.now) 361) Space c.in_ok-refuse_if.ensures)
+fill-requires c = enough (length c.args.out.now) 361 Space c.in_ok-refuse_if.ensures
 
 pub returns : goal.returns
 unfolding accepted_answer
 returns c =
     let a = c.args in
     let taken = accepted_with c.in_ok-accepted.ensures in
-    let room : 361 ≤ length a.out.now = ltb-false (length a.out.now) 361 (not_fitting (ltb (length a.out.now) 361) Space c.in_ok-refuse_if.ensures) in
+    let room : 361 ≤ length a.out.now = enough (length a.out.now) 361 Space c.in_ok-refuse_if.ensures in
     let both = table_filled a.p a.out.now c.fill.new.out taken.0 room
     (c.fill.ensures ∙ ap (λ (q : Panel). depth_table q ++ drop 361 a.out.now) (c.shown_fire.ensures ∙ ap shown taken.1)) in
     record { value = both.0; out_after = both.1 }

@@ -2,9 +2,8 @@
 use Rattle.std.proofs.Common.{length, drop, List, [], ℕ, ◌++◌, refl, sym, ap, ◌∙◌}
 use Rattle.fire_card.proofs.Texts.{text_refused_so, text_fits}
 use Rattle.fire_card.specs.Answers.{text_refusal}
-use Rattle.limits.proofs.FirstLine.{refused_with, handed, call_line, not_fitting}
+use Rattle.limits.proofs.FirstLine.{refused_with, handed, call_line, enough}
 use Rattle.limits.specs.declared.refusal.Refusal.TheVariants.{Space}
-use borrow.Author.Tests.{ltb-false}
 use lib.Dec.{ltb}
 use Rattle.fire_card.proofs.calls.deliver.Goals as goal
 
@@ -21,7 +20,7 @@ pub returns : goal.returns
 returns c =
     let text = c.args.text.now in
     let space = c.args.out.now in
-    let room = ltb-false (length space) (length text) (not_fitting (ltb (length space) (length text)) Space c.in_ok-refuse_if.ensures) in
+    let room = enough (length space) (length text) Space c.in_ok-refuse_if.ensures in
     let both = text_fits text space room in record {
       value = both.0;
       out_after = ap (λ (front : List ℕ). front ++ drop (length text) space) c.copy_from_slice.ensures.after ∙ both.1;

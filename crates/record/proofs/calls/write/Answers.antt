@@ -1,6 +1,6 @@
 -- `record::calls::write` meets its contract: the record is stored where no line and no want of space refuses it. Assumes nothing.
 use Rattle.std.proofs.Common.{◌≡◌, ◌≤◌, length, sym, ap, ◌∙◌}
-use Rattle.limits.proofs.FirstLine.{turned_above, accepted_with, refused_with, handed, call_line, not_fitting}
+use Rattle.limits.proofs.FirstLine.{turned_above, accepted_with, refused_with, handed, call_line, enough}
 use Rattle.limits.specs.Answers.{accepted_answer}
 use Rattle.limits.specs.Refusals.{panel_lines, panel_refusal}
 use Rattle.limits.specs.declared.refusal.Refusal.TheVariants.{Space}
@@ -8,8 +8,6 @@ use Rattle.panel.specs.declared.Panel.{Panel}
 use Rattle.record.proofs.Writes.{short, answers_refused, answers_written}
 use Rattle.record.specs.Layouts.{record_length, encode}
 use Rattle.record.specs.Refusals.{short_for, write_refusal}
-use borrow.Author.Tests.{ltb-false}
-use lib.Dec.{ltb}
 use lib.Seq.{sets}
 use Rattle.record.proofs.calls.write.Goals as goal
 
@@ -36,7 +34,7 @@ pub put_record-requires : goal.put_record-requires
 put_record-requires c =
     let out = c.args.out.now in
     let len = c.record_length-length in
-    rw len.ensures.0 at (ltb-false (length out) len.result (not_fitting (ltb (length out) len.result) Space c.in_ok-refuse_if.ensures))
+    rw len.ensures.0 at (enough (length out) len.result Space c.in_ok-refuse_if.ensures)
 
 pub returns : goal.returns
 unfolding accepted_answer
@@ -47,7 +45,7 @@ returns c =
     let taken = accepted_with c.in_ok-accepted.ensures in
     let whole : len.result ≡ record_length a.p = len.ensures.0 ∙ ap record_length taken.1 in
     let room : record_length a.p ≤ length out =
-    rw whole at (ltb-false (length out) len.result (not_fitting (ltb (length out) len.result) Space c.in_ok-refuse_if.ensures)) in
+    rw whole at (enough (length out) len.result Space c.in_ok-refuse_if.ensures) in
     let both = answers_written a.p out c.put_record.new.out len.result whole taken.0 room
     (c.put_record.ensures ∙ ap (λ (q : Panel). sets out 0 (encode q)) taken.1) in
     record { value = both.0; out_after = both.1 }

@@ -2,6 +2,7 @@
 -- Assumes nothing.
 use Prim.Native.Nat.{ℕ, ◌+◌, ◌-◌, ◌≤◌}
 use Rattle.numbers.proofs.Lists.{rest_stored}
+use Rattle.panel.proofs.Lent.{length_in}
 use Rattle.panel.proofs.Used.{length_lamellae_of}
 use Rattle.panel.specs.Lamellae.{Lamella, lamellae}
 use Rattle.panel.specs.declared.Panel.{Panel}
@@ -28,7 +29,7 @@ put_lamellae-requires c =
       ap (λ (q : Panel). q.count) c.panel-p.ensures.panel,
       c.put.auto.out,
       ap length c.lamellae.ensures,
-      length_lamellae_of lent.directions.now lent.thicknesses.now (length lent.directions.now),
+      length_in lent,
       length_lamellae_of p.directions p.thicknesses p.count,
     ))
 

@@ -5,8 +5,9 @@ use native.Mathlib.Omega.{arith}
 use lib.ListN.{length, drop}
 use borrow.Author.Tests.{ltb-true, ltb-false}
 use Rattle.std.proofs.lemmas.Grind.{get_or_default_zero}
+use Rattle.panel.proofs.Lent.{length_in}
 use Rattle.panel.specs.Lamellae.{Lamella, thickness}
-use Rattle.panel.proofs.Used.{length_lamellae_of, get_or_lamellae_of}
+use Rattle.panel.proofs.Used.{get_or_lamellae_of}
 use Rattle.section.specs.Carrying.{next_along}
 use Rattle.section.proofs.CarriedAlong.{nth, along_which, all_passed, next_ends, next_fits, next_past}
 use Rattle.section.proofs.carry.Carried.begin_next.Goals as goal
@@ -17,14 +18,14 @@ returns-in_err-thick c =
     let here = c.args.self in
     let l = here.lamellae in
     let all : length (along_which here) ≤ here.place =
-    omega (arith, ltb-false _ _ (sym c.in_err-thick.ensures.lookup.0), l.aligned, length_lamellae_of l.directions.now l.thicknesses.now (length l.directions.now)) in
+    omega (arith, ltb-false _ _ (sym c.in_err-thick.ensures.lookup.0), l.aligned, length_in l) in
     rw c.from_residual.ensures (all_passed here all c.requires)
 
 -- another lamella follows
 there : (c : After-from) → c.args.self.place < length (along_which c.args.self)
 there c =
     let l = c.args.self.lamellae in
-    omega (arith, ltb-true _ _ (sym c.in_ok-thick.ensures.lookup.0), l.aligned, length_lamellae_of l.directions.now l.thicknesses.now (length l.directions.now))
+    omega (arith, ltb-true _ _ (sym c.in_ok-thick.ensures.lookup.0), l.aligned, length_in l)
 
 thick : (c : After-from) → c.from.result ≡ (nth (along_which c.args.self) c.args.self.place).thickness
 thick c =
