@@ -2,8 +2,8 @@
 // Prints the card of the record on standard input, or `REFUSED` and its number. Its stored input is panel G.
 #![tactic(auto)]
 
-use std::io;
+use std::process::ExitCode;
 
-fn main(rt: HostRuntime) -> io::Result<()> {
+fn main(rt: HostRuntime) -> ExitCode {
     card_run::run(&rt)
 }

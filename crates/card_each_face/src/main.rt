@@ -2,8 +2,8 @@
 // Held to what it prints for a fire on each face alone: the lesser R comes from the one, the lesser EI from the other.
 #![tactic(auto)]
 
-use std::io;
+use std::process::ExitCode;
 
-fn main(rt: HostRuntime) -> io::Result<()> {
+fn main(rt: HostRuntime) -> ExitCode {
     card_run::run(&rt)
 }

@@ -2,8 +2,8 @@
 // Held to what it prints for an input one byte longer than the longest record, which it begins with.
 #![tactic(auto)]
 
-use std::io;
+use std::process::ExitCode;
 
-fn main(rt: HostRuntime) -> io::Result<()> {
+fn main(rt: HostRuntime) -> ExitCode {
     card_run::run(&rt)
 }

@@ -1,22 +1,26 @@
 // An input, read into lent bytes: what the programs share, the test programs too.
 #![tactic(auto)]
 
-ghost use Rattle.std.specs.Prelude.{◌≤◌, length};
+ghost use Rattle.std.specs.Prelude.{◌≡◌, ◌≤◌, length, take, IfOk, IfSome};
 
+use std::io;
 use std::io::Read;
 
-// What of the input fits into the space; a read that fails ends the input. The loop is kept as it is: std's `read_to_end` wants a `Vec`, for which there is no heap, and
-// `read_exact` does not say how much it read of a shorter input.
-pub fn read_full<'a>(input: &mut impl Read, space: &'a mut [u8]) -> &'a [u8]
-    ensures { length result.now ≤ length space.old }
+// What of the input fits into the space: all of it, or as much as there is room for. A failed read, an interrupted one too, is no end of
+// the input: the error goes up, and nothing is said of the bytes before it. Of some readers it is known what is left in them (`remaining`),
+// and so promised what is read; not of standard input, for which the code is the same. The loop is kept as it is: std's `read_to_end` wants
+// a `Vec`, for which there is no heap, and `read_exact` does not say how much it read of a shorter input.
+pub fn read_full<'a, R: Read>(input: &mut R, space: &'a mut [u8]) -> io::Result<&'a [u8]>
+    ensures fits { IfOk result (λ read. length read.now ≤ length space.old) }
+    ensures front { IfOk result (λ read. IfSome (R.remaining input.old) (λ left. read.now ≡ take (length space.old) left)) }
 {
     let mut n = 0;
     while n < space.len() {
-        let more = input.read(&mut space[n..]).unwrap_or(0);
+        let more = input.read(&mut space[n..])?;
         if more == 0 {
-            break;
+            return Ok(&space[..n]);
         }
         n += more;
     }
-    &space[..n]
+    Ok(&space[..n])
 }

@@ -86,6 +86,6 @@ fn answer_all(rt: &impl Print, text: &[u8]) -> io::Result<()> {
 
 pub fn run(rt: &(impl Input + Print)) -> io::Result<()> {
     let mut input = [0u8; 65536];
-    let text = read_full(&mut rt.reader(), &mut input);
+    let text = read_full(&mut rt.reader(), &mut input)?;
     answer_all(rt, text)
 }

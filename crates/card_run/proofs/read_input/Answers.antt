@@ -1,9 +1,30 @@
 -- More than 54 bytes of an input say what the whole of it does.
-use Rattle.std.proofs.Common.{ap, ◌∙◌, lit≤}
+use Rattle.std.proofs.Common.{◌≡◌, ℕ, List, take, Result, Ok, Err, None, Some, IfOk, IfSome, rules, ap, ◌∙◌, lit≤}
+use Rattle.std.specs.declared.option.Option.{Option}
 use Rattle.fire_card.proofs.Prints.{printed_first}
 use Rattle.fire_card.specs.Printed.{printed_text}
+use Rattle.card_run.specs.Input.{SpeaksForAll}
 use Rattle.card_run.specs.declared.TheConstants.{ROOM}
 use Rattle.card_run.proofs.read_input.Goals as goal
 
-pub returns : goal.returns
-returns g c = λ input e. ap printed_text e ∙ printed_first input ROOM (lit≤ tt)
+speaks : (bytes : List ℕ) → SpeaksForAll ROOM bytes
+speaks bytes = λ input e. ap printed_text e ∙ printed_first input ROOM (lit≤ tt)
+
+module _ {A E : Type 0} (bytes : A → List ℕ) where
+  speaks_if_ok : (r : Result A E) → IfOk r (λ read. SpeaksForAll ROOM (bytes read))
+  speaks_if_ok (Ok read) = speaks (bytes read)
+  speaks_if_ok (Err e) = tt
+
+  -- what is known to be left in the reader is such an input
+  speaks_for_left : (r : Result A E) (known : Option (List ℕ)) (room : ℕ) → room ≡ ROOM
+      → IfOk r (λ read. IfSome known (λ left. bytes read ≡ take room left))
+      → IfOk r (λ read. IfSome known (λ left. printed_text (bytes read) ≡ printed_text left))
+  speaks_for_left (Ok read) None room long h = tt
+  speaks_for_left (Ok read) (Some left) room long h = speaks (bytes read) left (h ∙ ap (λ n. take n left) long)
+  speaks_for_left (Err e) known room long h = tt
+
+pub returns-clause-any : goal.returns-clause-any
+returns-clause-any g c = search (speaks_if_ok, speaks)
+
+pub returns-clause-left : goal.returns-clause-left
+returns-clause-left g c = speaks_for_left (λ read. read.now) _ _ _ (search rules) c.read_full.ensures.front
