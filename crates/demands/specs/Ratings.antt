@@ -37,7 +37,7 @@ pub record RatingsOf (p : Panel) (text : List ℕ) : Type 0 where
   pub ei_grade : IsGradeOf (ei_on_card text) (ei_grade_on_card text)
   -- "REI takes the lower of R and EI": of the two minutes that stand on the card
   pub rei : IsGradeOf (min (printed_minute text) (ei_on_card text)) (rei_on_card text)
-  -- and it is the REI grade that planing must not lower
+  -- and it is the REI grade that planing goes by
   pub planed : rei_on_card text ≡ (rei_grade p).minutes
 
 -- of every accepted record, as demand 3 is
