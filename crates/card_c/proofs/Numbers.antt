@@ -1,15 +1,12 @@
 -- The answers of the card's calls as numbers of 32 bits.
-use Prim.Native.Nat.{ℕ, zero, suc, ◌≤◌, ◌<◌}
-use mathlib.Core.Path.{◌≡◌, ap, subst, sym, ◌∙◌}
+use Prim.Native.Nat.{ℕ, zero, suc, ◌≤◌}
+use mathlib.Core.Path.{◌≡◌, ap}
 use mathlib.Core.List.{List}
 use native.Mathlib.Omega.{arith}
-use lib.IntN.{ℤ, pos, neg_ℤ, ◌-ℤ◌, +ℤ_idl}
+use lib.IntN.{pos}
 use lib.ListN.{length}
-use mir.Syntax.{w32}
-use mir.Val.{SFits, to_z}
-use mir.Facts.{to_z_pos}
 use Rattle.limits.specs.Lines.{Line, answer}
-use Rattle.std.specs.Prelude.{Result, Ok, Err}
+use Rattle.std.specs.Prelude.{Ok, Err}
 use Rattle.fire_card.specs.Card.{card_most}
 use Rattle.fire_card.specs.Answers.{text_refusal, text_answer}
 use Rattle.card_c.specs.Exported.{exported, Short}

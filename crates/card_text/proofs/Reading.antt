@@ -1,4 +1,4 @@
--- What is read back of a line: the lines after it, the number in its first field, and the one after its colon.
+-- What is read back of a line: the lines after it, the numbers in its first and second field, and the one after its colon.
 use Rattle.std.proofs.lemmas.Bool.{or_from}
 use Prim.Native.Nat.{ℕ, zero, suc, ◌+◌, ◌*◌, ◌/◌, ◌%◌, ◌^◌, ◌<◌}
 use mathlib.Core.Path.{◌≡◌, refl, sym, ap, ◌∙◌}
@@ -10,7 +10,7 @@ use borrow.Author.Tests.{le-ltb, ne_eqb, eq-eqb}
 use lib.Dec.{eqb}
 use Rattle.numbers.specs.Choice.{outside}
 use Rattle.numbers.proofs.Booleans.{not_both}
-use Rattle.card_text.specs.Text.{digits, decimal, two_digits, text_fields, text_line, time_line, after, number_from, first_number, number_after_colon, free, no_digit}
+use Rattle.card_text.specs.Text.{digits, decimal, two_digits, text_fields, text_line, time_line, after, number_from, first_number, second_number, number_after_colon, free, no_digit}
 use Rattle.card_text.proofs.Digits.{by_size, tenth_below}
 
 -- a digit is a byte from 48 to 57
@@ -122,16 +122,39 @@ first_field :
     → free 32 head ≡ true → n < 10000000000 → no_digit rest ≡ true → first_number (head ++ ((32 ∷ decimal n) ++ rest)) ≡ n
 first_field head n rest e h f = ap (number_from 0) (after_free 32 head (decimal n ++ rest) e) ∙ decimal_value n h rest f
 
+-- after a number of a line comes a blank or the line feed
+after_number : (ns rest : List ℕ) → no_digit (text_fields ns ++ ((10 ∷ []) ++ rest)) ≡ true
+unfolding text_fields
+after_number [] rest = refl
+after_number (m ∷ ns) rest = refl
+
 -- the number in a line's first field is the first number
 pub first_number_lem :
     (head : List ℕ) (n : ℕ) (ns rest : List ℕ) → free 32 head ≡ true → n < 10000000000 → first_number (text_line head (n ∷ ns) ++ rest) ≡ n
 unfolding text_fields
 first_number_lem head n ns rest e h =
-    ap first_number (simp append_assoc) ∙ first_field head n (text_fields ns ++ ((10 ∷ []) ++ rest)) e h (after_number ns)
+    ap first_number (simp append_assoc) ∙ first_field head n (text_fields ns ++ ((10 ∷ []) ++ rest)) e h (after_number ns rest)
+
+-- and the one in its second field the second
+second_field :
+    (head : List ℕ) (m n : ℕ) (rest : List ℕ)
+    → free 32 head ≡ true → n < 10000000000 → no_digit rest ≡ true
+    → second_number (head ++ ((32 ∷ decimal m) ++ ((32 ∷ decimal n) ++ rest))) ≡ n
+second_field head m n rest e h f =
+    ap (λ (text : List ℕ). number_from 0 (after 32 text)) (after_free 32 head (decimal m ++ ((32 ∷ decimal n) ++ rest)) e)
+    ∙ ap (number_from 0) (after_free 32 (decimal m) (decimal n ++ rest) (free_digits 32 refl 10 m))
+    ∙ decimal_value n h rest f
+
+pub second_number_lem :
+    (head : List ℕ) (m n : ℕ) (ns rest : List ℕ)
+    → free 32 head ≡ true → n < 10000000000 → second_number (text_line head (m ∷ n ∷ ns) ++ rest) ≡ n
+unfolding text_fields
+second_number_lem head m n ns rest e h =
+    ap second_number (in_a_row head (32 ∷ decimal m) (32 ∷ decimal n) (text_fields ns) (10 ∷ []) rest)
+    ∙ second_field head m n (text_fields ns ++ ((10 ∷ []) ++ rest)) e h (after_number ns rest)
   where
-    after_number : (ns : List ℕ) → no_digit (text_fields ns ++ ((10 ∷ []) ++ rest)) ≡ true
-    after_number [] = refl
-    after_number (m ∷ ns) = refl
+    in_a_row : (a b c d e f : List ℕ) → (a ++ (b ++ (c ++ d)) ++ e) ++ f ≡ a ++ (b ++ (c ++ (d ++ (e ++ f))))
+    in_a_row a b c d e f = simp append_assoc refl
 
 -- of a line with a time it is the minutes, and the number after the colon the seconds
 pub time_minutes :

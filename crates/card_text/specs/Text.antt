@@ -44,6 +44,10 @@ number_from v (c ∷ cs) = elim (outside 48 57 c) [ true ↦ v | false ↦ numbe
 abbrev pub first_number : List ℕ → ℕ
 first_number text = number_from 0 (after 32 text)
 
+-- and the one in the second
+abbrev pub second_number : List ℕ → ℕ
+second_number text = number_from 0 (after 32 (after 32 text))
+
 -- the number after a colon, as the seconds stand in a line
 abbrev pub number_after_colon : List ℕ → ℕ
 number_after_colon text = number_from 0 (after 58 text)

@@ -1,4 +1,6 @@
+pub mod EveryCard
 pub mod ReadBack
 pub mod LoadMinute
 pub mod Seconds
+pub mod Ratings
 pub mod Planing

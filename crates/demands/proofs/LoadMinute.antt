@@ -9,20 +9,14 @@ use Rattle.panel.specs.Faces.{turned}
 use Rattle.panel.proofs.Turning.{every_holds}
 use Rattle.limits.specs.Refusals.{panel_refusal}
 use Rattle.limits.proofs.Turned.{refusal_turned}
-use Rattle.record.specs.Layouts.{panel_of}
-use Rattle.record.specs.Refusals.{record_lines, record_refusal}
-use Rattle.record.proofs.Sound.{record_panel}
 use Rattle.load.specs.Failure.{TimePasses, EveryFirePasses, PassesUpTo}
 use Rattle.load.specs.LoadMinute.{load_minute, printed_load}
 use Rattle.load.proofs.WholeParts.{whole_exactly}
 use Rattle.load.proofs.EveryFire.{CloseBelow, load_close, printed_close}
 use Rattle.load.proofs.Exposure.{not_enlarged}
-use Rattle.fire_card.specs.Card.{text_of_card}
-use Rattle.fire_card.proofs.Prints.{printed_card}
-use Rattle.fire_card.proofs.Texts.{text_stands}
-use Rattle.card_c.proofs.Numbers.{written_bytes}
+use Rattle.demands.proofs.EveryCard.{of_every_card}
 use Rattle.demands.proofs.ReadBack.{minute_read}
-use Rattle.demands.specs.Demand3.{printed_minute, OfMinute, OfFire, Demanded, Demand3, Demand3OfCall, Demand3OfC}
+use Rattle.demands.specs.Demand3.{printed_minute, OfMinute, OfFire, Demanded, Demand3}
 
 -- Of a load minute, of a fire, and of a panel
 
@@ -41,7 +35,7 @@ of_close Passes m h =
 of_fire : (p : Panel) → panel_refusal p ≡ 0 → OfFire p
 of_fire p e = record { load = of_close (TimePasses p) (load_minute p) (load_close p e); exposure = not_enlarged p }
 
-pub of_panel : (p : Panel) → panel_refusal p ≡ 0 → Demanded p (printed_load p)
+of_panel : (p : Panel) → panel_refusal p ≡ 0 → Demanded p (printed_load p)
 of_panel p e =
     record {
       each_fire = every_holds OfFire p.face p (of_fire p e) (of_fire (turned p) (refusal_turned p ∙ e));
@@ -49,23 +43,6 @@ of_panel p e =
       lesser = refl;
     }
 
--- Of what is printed
-
--- of every accepted record's card
-of_card : (b : List ℕ) → record_refusal b ≡ 0 → Demanded (panel_of b) (printed_minute (text_of_card (panel_of b)))
-of_card b e =
-    let p = panel_of b in
-    subst (Demanded p) (sym (minute_read p)) (of_panel p (record_panel b e))
-
 pub demand_3 : Demand3
-demand_3 b e = subst (λ (text : List ℕ). Demanded (panel_of b) (printed_minute text)) (printed_card b e) (of_card b e)
-
-pub demand_3_of_call : Demand3OfCall
-unfolding record_refusal
-demand_3_of_call b space k e =
-    let p = panel_of b in
-    let h = text_stands (record_lines b) (text_of_card p) space tt k e in
-    subst (λ (text : List ℕ). Demanded p (printed_minute text)) (sym h.1.1) (of_card b h.0)
-
-pub demand_3_of_c : Demand3OfC
-demand_3_of_c b space k e = demand_3_of_call b space k (written_bytes (record_lines b) (text_of_card (panel_of b)) space k e)
+demand_3 =
+    of_every_card (λ (p : Panel) (text : List ℕ). Demanded p (printed_minute text)) (λ p e. subst (Demanded p) (sym (minute_read p)) (of_panel p e))

@@ -1,7 +1,6 @@
 -- The failure time in minutes and seconds is what document 02, 5/14, says of it, of what is printed and of the calls. Assumes nothing.
 use Prim.Native.Nat.{ℕ, suc, ◌≤◌, ◌<◌}
 use mathlib.Core.Path.{◌≡◌, sym, ap₂, subst, ◌∙◌}
-use mathlib.Core.List.{List}
 use mathlib.Core.Logic.{inl, inr, ⊎_elim, ◌↔◌}
 use native.Mathlib.Omega.{arith}
 use native.Mathlib.Nat.{eq-or-lt_of_le}
@@ -10,19 +9,14 @@ use Rattle.panel.specs.Faces.{turned}
 use Rattle.panel.proofs.Turning.{every_holds}
 use Rattle.limits.specs.Refusals.{panel_refusal}
 use Rattle.limits.proofs.Turned.{refusal_turned}
-use Rattle.record.specs.Layouts.{panel_of}
-use Rattle.record.specs.Refusals.{record_lines, record_refusal}
-use Rattle.record.proofs.Sound.{record_panel}
 use Rattle.load.specs.Failure.{TimePasses, EveryFirePasses, PassesUpTo, NotAboveFailure, AboveFailure}
 use Rattle.load.specs.LoadMinute.{load_seconds, printed_load_seconds, minutes_in, seconds_over}
 use Rattle.load.proofs.WholeParts.{whole_exactly}
 use Rattle.load.proofs.EveryFire.{CloseBelow, seconds_close, printed_seconds_close, minutes_printed}
 use Rattle.fire_card.specs.Card.{text_of_card}
-use Rattle.fire_card.proofs.Prints.{printed_card}
-use Rattle.fire_card.proofs.Texts.{text_stands}
-use Rattle.card_c.proofs.Numbers.{written_bytes}
+use Rattle.demands.proofs.EveryCard.{of_every_card}
 use Rattle.demands.proofs.ReadBack.{minute_read, minutes_read, seconds_read}
-use Rattle.demands.specs.Seconds.{seconds_on_card, in_seconds, OfTime, OfCard, PrintedTime, PrintedTimeOfCall, PrintedTimeOfC}
+use Rattle.demands.specs.Seconds.{seconds_on_card, in_seconds, OfTime, TimeOf, PrintedTime}
 
 -- minutes and seconds together are the whole seconds again
 together : (seconds : ℕ) → in_seconds (minutes_in seconds) (seconds_over seconds) ≡ seconds
@@ -47,7 +41,7 @@ of_close Passes seconds h =
     lasts : NotAboveFailure Passes 21600 60 → PassesUpTo Passes 360 1
     lasts all r s positive up = all r s positive (omega arith)
 
-pub of_panel : (p : Panel) → panel_refusal p ≡ 0 → OfCard p (text_of_card p)
+of_panel : (p : Panel) → panel_refusal p ≡ 0 → TimeOf p (text_of_card p)
 of_panel p e =
     let seconds = printed_load_seconds p in
     record {
@@ -64,21 +58,5 @@ of_panel p e =
     of_fire : (fire : Panel) → panel_refusal fire ≡ 0 → OfTime (TimePasses fire) (minutes_in (load_seconds fire)) (seconds_over (load_seconds fire))
     of_fire fire accepted = of_close (TimePasses fire) (load_seconds fire) (seconds_close fire accepted)
 
--- Of what is printed
-
-of_card : (b : List ℕ) → record_refusal b ≡ 0 → OfCard (panel_of b) (text_of_card (panel_of b))
-of_card b e = of_panel (panel_of b) (record_panel b e)
-
 pub printed_time : PrintedTime
-printed_time b e = subst (OfCard (panel_of b)) (printed_card b e) (of_card b e)
-
-pub printed_time_of_call : PrintedTimeOfCall
-unfolding record_refusal
-printed_time_of_call b space k e =
-    let p = panel_of b in
-    let h = text_stands (record_lines b) (text_of_card p) space tt k e in
-    subst (OfCard p) (sym h.1.1) (of_card b h.0)
-
-pub printed_time_of_c : PrintedTimeOfC
-printed_time_of_c b space k e =
-    printed_time_of_call b space k (written_bytes (record_lines b) (text_of_card (panel_of b)) space k e)
+printed_time = of_every_card TimeOf of_panel

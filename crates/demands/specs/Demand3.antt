@@ -1,21 +1,21 @@
 -- Demand 3 of the user, sentence by sentence, with what document 02, 3/14, says of it for several fires. A time is n/q
 -- minutes, q not 0; two times are compared by multiplying out.
-use Rattle.std.specs.Prelude.{Ok, ℕ, suc, ◌*◌, ◌≤◌, ◌<◌, ◌≡◌, List, ◌⊎◌, ◌↔◌, pos, take}
+use Rattle.std.specs.Prelude.{ℕ, suc, ◌*◌, ◌≤◌, ◌<◌, ◌≡◌, List, ◌⊎◌, ◌↔◌}
 use Rattle.panel.specs.declared.Panel.{Panel}
 use Rattle.panel.specs.Faces.{fires, InEvery, least_of}
-use Rattle.record.specs.Layouts.{panel_of}
-use Rattle.record.specs.Refusals.{record_refusal}
 use Rattle.load.specs.Failure.{TimePasses, EveryFirePasses, PassesUpTo, NotAboveFailure, AboveFailure}
 use Rattle.load.specs.LoadMinute.{load_minute}
 use Rattle.load.specs.Exposure.{NotEnlarged}
 use Rattle.card_text.specs.Text.{after, first_number}
-use Rattle.fire_card.specs.Answers.{card_answer, card_after}
-use Rattle.fire_card.specs.Printed.{printed_text}
-use Rattle.card_c.specs.Exported.{exported}
+use Rattle.demands.specs.EveryCard.{OfEveryCard}
 
--- the printed load minute: the number on the card's line R, which comes after five line feeds
+-- the card from its line R on, which comes after five line feeds
+abbrev pub from_load : List ℕ → List ℕ
+from_load text = after 10 (after 10 (after 10 (after 10 (after 10 text))))
+
+-- the printed load minute: the first number on that line
 abbrev pub printed_minute : List ℕ → ℕ
-printed_minute text = first_number (after 10 (after 10 (after 10 (after 10 (after 10 text)))))
+printed_minute text = first_number (from_load text)
 
 -- what is demanded of a load minute, by what it is for a time to pass
 pub record OfMinute (Passes : ℕ → ℕ → Type 0) (minute : ℕ) : Type 0 where
@@ -45,18 +45,6 @@ pub record Demanded (p : Panel) (printed : ℕ) : Type 0 where
   -- "For 2 the printed minutes are the lesser of the two fires"
   pub lesser : printed ≡ least_of load_minute (fires p)
 
--- "For every accepted record, whatever lamellae, boards and moment it gives": of the bytes b of the record, and the text that the
--- program prints for them
+-- "For every accepted record, whatever lamellae, boards and moment it gives"
 abbrev pub Demand3 : Type 0
-Demand3 = (b : List ℕ) → record_refusal b ≡ 0 → Demanded (panel_of b) (printed_minute (printed_text b))
-
--- The same of the calls, whatever the length of the lent space: where the card call answers that it wrote k bytes, of the minute that
--- then stands in the first k bytes of the space
-abbrev pub Demand3OfCall : Type 0
-Demand3OfCall =
-    (b space : List ℕ) (k : ℕ) → card_answer b space ≡ Ok k → Demanded (panel_of b) (printed_minute (take k (card_after b space)))
-
--- and where the function for C answers k, 0 or above
-abbrev pub Demand3OfC : Type 0
-Demand3OfC =
-    (b space : List ℕ) (k : ℕ) → exported (card_answer b space) ≡ pos k → Demanded (panel_of b) (printed_minute (take k (card_after b space)))
+Demand3 = OfEveryCard (λ p text. Demanded p (printed_minute text))

@@ -1,3 +1,5 @@
+pub mod EveryCard
 pub mod Demand3
 pub mod Seconds
+pub mod Ratings
 pub mod Planing

@@ -1,21 +1,17 @@
 -- Document 02, 5/14, sentence by sentence, as demand 3 is stated: the failure time in whole minutes and seconds. A time is n/q minutes, q
 -- not 0; two times are compared by multiplying out.
-use Rattle.std.specs.Prelude.{Ok, ℕ, suc, ◌+◌, ◌*◌, ◌≤◌, ◌<◌, ◌≡◌, List, ◌⊎◌, ◌↔◌, pos, take}
+use Rattle.std.specs.Prelude.{ℕ, suc, ◌+◌, ◌*◌, ◌≤◌, ◌<◌, ◌≡◌, List, ◌⊎◌, ◌↔◌}
 use Rattle.panel.specs.declared.Panel.{Panel}
 use Rattle.panel.specs.Faces.{fires, InEvery, least_of}
-use Rattle.record.specs.Layouts.{panel_of}
-use Rattle.record.specs.Refusals.{record_refusal}
 use Rattle.load.specs.Failure.{TimePasses, EveryFirePasses, PassesUpTo, NotAboveFailure, AboveFailure}
 use Rattle.load.specs.LoadMinute.{load_seconds, minutes_in, seconds_over}
 use Rattle.card_text.specs.Text.{after, first_number, number_after_colon}
-use Rattle.fire_card.specs.Answers.{card_answer, card_after}
-use Rattle.fire_card.specs.Printed.{printed_text}
-use Rattle.card_c.specs.Exported.{exported}
-use Rattle.demands.specs.Demand3.{printed_minute}
+use Rattle.demands.specs.EveryCard.{OfEveryCard}
+use Rattle.demands.specs.Demand3.{from_load, printed_minute}
 
 -- the two numbers on the card's line RS, which comes after six line feeds: the one in its first field, and the one after the colon
 abbrev pub from_time : List ℕ → List ℕ
-from_time text = after 10 (after 10 (after 10 (after 10 (after 10 (after 10 text)))))
+from_time text = after 10 (from_load text)
 
 abbrev pub minutes_on_card : List ℕ → ℕ
 minutes_on_card text = first_number (from_time text)
@@ -40,7 +36,7 @@ pub record OfTime (Passes : ℕ → ℕ → Type 0) (minutes seconds : ℕ) : Ty
   pub exactly : (whole : ℕ) → whole ≤ in_seconds 360 0 → (whole ≤ in_seconds minutes seconds) ↔ PassesUpTo Passes whole 60
 
 -- what is asked of a panel and the text of its card
-pub record OfCard (p : Panel) (text : List ℕ) : Type 0 where
+pub record TimeOf (p : Panel) (text : List ℕ) : Type 0 where
   -- each fire has its own time
   pub each_fire : InEvery (λ fire. OfTime (TimePasses fire) (minutes_in (load_seconds fire)) (seconds_over (load_seconds fire))) (fires p)
   -- the printed one when a time is taken to pass exactly when it passes in both fires
@@ -50,17 +46,6 @@ pub record OfCard (p : Panel) (text : List ℕ) : Type 0 where
   -- "and for face 2 it is the lesser of the two fires"
   pub lesser : in_seconds (minutes_on_card text) (seconds_on_card text) ≡ least_of load_seconds (fires p)
 
--- of the bytes b of every accepted record, and the text that the program prints for them
+-- of every accepted record, as demand 3 is
 abbrev pub PrintedTime : Type 0
-PrintedTime = (b : List ℕ) → record_refusal b ≡ 0 → OfCard (panel_of b) (printed_text b)
-
--- The same of the calls, whatever the length of the lent space: where the card call answers that it wrote k bytes, of the first k bytes that
--- then stand in the space
-abbrev pub PrintedTimeOfCall : Type 0
-PrintedTimeOfCall =
-    (b space : List ℕ) (k : ℕ) → card_answer b space ≡ Ok k → OfCard (panel_of b) (take k (card_after b space))
-
--- and where the function for C answers k, 0 or above
-abbrev pub PrintedTimeOfC : Type 0
-PrintedTimeOfC =
-    (b space : List ℕ) (k : ℕ) → exported (card_answer b space) ≡ pos k → OfCard (panel_of b) (take k (card_after b space))
+PrintedTime = OfEveryCard TimeOf

@@ -5,8 +5,8 @@ use Rattle.panel.specs.declared.Panel.{Panel}
 use Rattle.panel.specs.Faces.{shown}
 use Rattle.charring.specs.Depths.{micrometres_at, tenths_at}
 use Rattle.layers.specs.Layers.{printed_ei}
-use Rattle.grades.specs.Grades.{grade_of, rei_of}
 use Rattle.load.specs.LoadMinute.{printed_load, printed_load_seconds, minutes_in, seconds_over}
+use Rattle.ratings.specs.Answers.{load_grade, ei_grade, rei_grade}
 
 -- Line heads
 
@@ -48,20 +48,29 @@ char_line p minute = text_line char_head (minute ∷ micrometres_at p minute 1 �
 abbrev pub char_lines : Panel → List ℕ
 char_lines p = char_line p 30 ++ char_line p 60 ++ char_line p 90 ++ char_line p 120
 
--- "The card gains a line `RS` with both numbers, two digits for the seconds, after R"
-abbrev pub load_lines : ℕ → ℕ → List ℕ
-load_lines load seconds =
-    text_line load_head (load ∷ (grade_of load).minutes ∷ []) ++ time_line time_head (minutes_in seconds) (seconds_over seconds)
+-- "R and EI the minute and grade"
+abbrev pub load_line : Panel → List ℕ
+load_line p = text_line load_head (printed_load p ∷ (load_grade p).minutes ∷ [])
 
--- "R and EI the minute and grade; REI the grade"
-abbrev pub rating_lines : ℕ → ℕ → ℕ → List ℕ
-rating_lines load seconds ei =
-    load_lines load seconds ++ text_line ei_head (ei ∷ (grade_of ei).minutes ∷ []) ++ text_line rei_head ((rei_of load ei).minutes ∷ [])
+-- "The card gains a line `RS` with both numbers, two digits for the seconds, after R"
+abbrev pub seconds_line : Panel → List ℕ
+seconds_line p = time_line time_head (minutes_in (printed_load_seconds p)) (seconds_over (printed_load_seconds p))
+
+-- "R and EI the minute and grade"
+abbrev pub ei_line : Panel → List ℕ
+ei_line p = text_line ei_head (printed_ei p ∷ (ei_grade p).minutes ∷ [])
+
+-- "REI the grade"
+abbrev pub rei_line : Panel → List ℕ
+rei_line p = text_line rei_head ((rei_grade p).minutes ∷ [])
+
+abbrev pub rating_lines : Panel → List ℕ
+rating_lines p = load_line p ++ seconds_line p ++ ei_line p ++ rei_line p
 
 -- the card of a panel: "CARD has the version"; "the CHAR lines .. are those of face 0" for 2, and "the printed minutes are the lesser of the
 -- two fires"
 unfoldable pub text_of_card : Panel → List ℕ
-text_of_card p = text_line card_head (p.version ∷ []) ++ char_lines (shown p) ++ rating_lines (printed_load p) (printed_load_seconds p) (printed_ei p)
+text_of_card p = text_line card_head (p.version ∷ []) ++ char_lines (shown p) ++ rating_lines p
 
 -- no card is longer: numbers of 32 bits have at most ten digits, so that CARD has 16 bytes, a line CHAR 38, R 24, RS 17, EI 25 and REI 15
 abbrev pub card_most : ℕ

@@ -3,14 +3,14 @@ use Prim.Native.Nat.{ℕ, ◌≤◌, max}
 use mathlib.Core.Path.{◌≡◌, refl, sym, ◌∙◌}
 use mathlib.Core.List.{List, [], ◌∷◌, Memᴰ}
 use mathlib.Core.Bool.{Bool, true, false}
-use mathlib.Core.Logic.{◌⊎◌, inl, inr}
+use mathlib.Core.Logic.{◌⊎◌, inl, inr, ⊎_elim}
 use native.Mathlib.Decide.{dec_le}
 use native.Mathlib.Nat.{le_refl, le_trans, le_antisymm, le-max_right}
 use native.Mathlib.Omega.{arith}
 use borrow.Author.Tests.{leb-true, le-leb, le-ltb, lt-ltb}
 use lib.Dec.{leb, ltb}
 use Rattle.numbers.specs.Choice.{pick}
-use Rattle.grades.specs.Grades.{grades, greatest_to, grade_of}
+use Rattle.grades.specs.Grades.{grades, greatest_to, grade_of, IsGradeOf}
 
 -- it is not above the minute
 pub greatest_within : (m : ℕ) (gs : List ℕ) → greatest_to m gs ≤ m
@@ -55,6 +55,17 @@ greatest_member m (g ∷ gs) = go (leb g m) (greatest_member m gs) (dec_le (grea
     go false (inr i) d =
         let e : max 0 rest ≡ rest = omega arith in
         inr (Memᴰ.tail {xs = gs} (rw e i))
+
+-- so `grade_of` gives what a grade means
+pub grade_is : (m : ℕ) → IsGradeOf m (grade_of m).minutes
+grade_is m = record { listed = greatest_member m grades; not_above = greatest_within m grades; greatest = greatest_most m grades }
+
+-- and there is one such number
+pub grade_unique : (m a b : ℕ) → IsGradeOf m a → IsGradeOf m b → a ≡ b
+grade_unique m a b f g = le_antisymm (no_more a b f g) (no_more b a g f)
+  where
+    no_more : (j k : ℕ) → IsGradeOf m j → IsGradeOf m k → j ≤ k
+    no_more j k f g = ⊎_elim (λ (e : j ≡ 0). omega (arith, e)) (λ (i : Memᴰ j grades). g.greatest j i f.not_above) f.listed
 
 -- a number that is found is reached by what a minute finds exactly when the minute reaches it
 pub greatest_reached : (m k : ℕ) (gs : List ℕ) → greatest_to m gs ≤ k → greatest_to m gs ≤ greatest_to k gs

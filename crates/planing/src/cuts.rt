@@ -14,7 +14,7 @@ use limits::check::Accepted;
 use limits::minute::Minute;
 use load::lasting::lasts;
 use panel::Panel;
-use ratings::rei::rei_grade_of;
+use ratings::Ratings;
 
 // An accepted panel and its REI grade. It holds the panel, since the check lends no part of a struct with a field that has a model.
 #[derive(Clone, Copy)]
@@ -45,7 +45,7 @@ impl Rated {
     {
         Rated {
             panel: accepted.panel(),
-            grade: rei_grade_of(accepted),
+            grade: Ratings::of(accepted).rei_grade(),
         }
     }
 

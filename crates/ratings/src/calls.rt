@@ -3,7 +3,7 @@ ghost use Rattle.std.specs.Prelude.{◌≡◌};
 ghost use Rattle.limits.specs.Numbers.{by_number};
 ghost use Rattle.ratings.specs.Answers.{load_grade, ei_grade, rei_grade, graded};
 
-use crate::rei::rei_grade_of;
+use crate::Ratings;
 use grades::Grade;
 use layers::minutes::ei_minute_of;
 use limits::check::Accepted;
@@ -35,5 +35,5 @@ pub fn rei_grade(p: Panel) -> Result<Grade, Refusal>
     ensures { by_number result ≡ graded rei_grade p }
 {
     let accepted = Accepted::of(p)?;
-    Ok(rei_grade_of(accepted))
+    Ok(Ratings::of(accepted).rei_grade())
 }

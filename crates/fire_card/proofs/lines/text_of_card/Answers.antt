@@ -3,8 +3,6 @@ use Rattle.std.proofs.Common.{ℕ, List, [], ◌∷◌, ◌++◌, ap, ap₂, ◌
 use Rattle.card_text.specs.Text.{text_line}
 use Rattle.charring.proofs.Accepted.{fire_fits}
 use Rattle.fire_card.specs.Card.{card_head, char_lines, rating_lines, text_of_card}
-use Rattle.load.specs.LoadMinute.{printed_load}
-use Rattle.panel.specs.Faces.{shown}
 use Rattle.panel.specs.declared.Panel.{Panel}
 use Rattle.fire_card.proofs.lines.text_of_card.Goals as goal
 
@@ -14,10 +12,6 @@ of-requires c = fire_fits c.panel-2.result c.panel-2.ensures.accepted
 pub returns : goal.returns
 unfolding text_of_card
 returns c =
-    let p = c.args.accepted in
     let head = c.push_line.ensures.added ∙ ap₂ (λ (text : List ℕ) (n : ℕ). text ++ text_line card_head (n ∷ [])) c.new-text.ensures (c.from.ensures ∙ ap (λ (q : Panel). q.version) c.panel.ensures.panel) in
     let chars = c.push_chars.ensures.added ∙ ap₂ (λ (text lines : List ℕ). text ++ lines) head (ap char_lines (c.of.ensures ∙ c.panel-2.ensures.panel ∙ c.shown.ensures)) in
-    c.push_ratings.ensures
-    ∙ ap₂ (λ (text : List ℕ) (m : ℕ). text ++ rating_lines m c.load_seconds_of-seconds.result c.ei_minute_of-ei.result) chars (c.of-load.ensures ∙ c.minutes_in.ensures ∙ c.load_seconds_of-seconds.ensures.minutes)
-    ∙ ap₂ (λ (s ei : ℕ). text_line card_head (p.version ∷ []) ++ char_lines (shown p) ++ rating_lines (printed_load p) s ei)
-    c.load_seconds_of-seconds.ensures.seconds c.ei_minute_of-ei.ensures
+    c.push_ratings.ensures ∙ ap₂ (λ (text : List ℕ) (q : Panel). text ++ rating_lines q) chars c.of-ratings.ensures
