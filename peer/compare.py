@@ -1,31 +1,27 @@
 """compare.py REPOSITORY [--records N] [--seed S] [--bin] [WORD..]
 
-Runs the test programs on random records and compares what they print with peer.py. WORD is a call of theirs, as `read`, or `test_panels`;
-none: all of them. Nothing has to be proved: `rt try` builds a program with checks, once for all of its input, which goes in pieces, as a
-program reads 64 KiB at most. --bin: runs the proved programs, crates/NAME/out/NAME, instead. test_panels reads no input: its `main` is
-written anew in a scratch copy, with random panels, unused places full (not with --bin).
+Runs the test programs on random records, and on random raw panels, and compares what they print with peer.py. WORD is a word of theirs, as
+`read` or `panel`; none: all of them. Nothing has to be proved: `rt try` builds a program with checks, once for all of its input, which goes
+in pieces, as a program reads 64 KiB at most. --bin: runs the proved programs, crates/NAME/out/NAME, instead.
 Ends with status 1 at a disagreement, and prints its line; and where something is missing, and says what.
 """
 import os
 import random
 import re
-import shutil
 import subprocess
 import sys
 import tempfile
 
-import make_cases
 import needs
 import peer
 import programs
 import random_records
 
 ROOM = 65_000  # bytes of one input
-GROUP = 300    # cases of one input, or of one `main` of test_panels
-FEW = 10       # cases of one input of `planing`, each of which is many steps
-BUILT = 5      # lines that a case of test_panels prints
-CUTS = 10      # one case of `planing` for so many of the others: peer.py tries every cut
-MAIN = "fn main(rt: HostRuntime) -> io::Result<()> {\n"
+GROUP = 300    # cases of one input
+FEW = {"planing": 10, "panel": 50, "each": 2}  # of words whose cases are many steps
+PER = {"planing": 10, "each": 50}              # one case for so many of the others: peer.py tries every cut, or asks of 256 panels
+THIN = 1_000   # tenths of mm: the cuts of a thicker panel that is accepted take peer.py long
 
 
 def random_space(rng, record):
@@ -125,10 +121,72 @@ def random_wanted(rng, record):
     return max(0, peer.load_minute(panel) + rng.choice([-1, 0, 1]))
 
 
+# Places of a raw panel whose byte is a letter, a direction, a count or another choice; and one past its end.
+FLAGS = [0, 1, 2, 4, programs.BOARDS_AT, programs.BOARDS_AT + 1, programs.BOARDS_AT + 5, programs.COUNT_AT, programs.COUNT_AT + 7,
+         *range(programs.DIRECTIONS_AT, programs.THICKNESSES_AT), programs.RAW]
+
+
+def random_board(rng):
+    return peer.Board(rng.choice([rng.randrange(256), *peer.TYPES]), rng.randrange(65_536), rng.randrange(256))
+
+
+def random_lamella(rng):
+    return rng.choice([rng.randrange(256), 0, 1]), rng.randrange(65_536)
+
+
+def raw_of(rng, panel):
+    """The raw panel with anything in its unused places, now and then with other counts."""
+    count = rng.choice([None] * 40 + [0, 10, rng.randint(0, 12), 2 ** 64 - 1, rng.randrange(2 ** 64)])
+    boards = rng.choice([None] * 6 + [rng.randrange(256)]) if len(panel.boards) < 2 else rng.choice([2, 2, 2, 3, rng.randrange(256), 255])
+    return programs.raw(panel, count, boards, [random_board(rng) for _ in range(2)], [random_lamella(rng) for _ in range(9)])
+
+
+def random_raw(rng):
+    """Mostly of a thin panel, with fields at their limits or past them; or any numbers."""
+    way = rng.randrange(40)
+    if way == 0:
+        return rng.randbytes(programs.RAW)
+    if way == 1:
+        return rng.randbytes(programs.RAW)[:rng.randrange(programs.RAW)]
+    panel = random_records.any_face(rng, random_records.thin_panel(rng) if way < 30 else random_records.random_panel(rng))
+    for _ in range(rng.choice([0, 1, 1, 2, 3])):
+        panel = random_records.at_a_limit(rng, panel)
+    data = raw_of(rng, panel)
+    meant = programs.raw_panel(data)
+    if peer.panel_refusal(meant) == 0 and peer.thickness_of(meant.lamellae) > THIN and rng.randrange(100):
+        return random_raw(rng)
+    return data
+
+
+def random_pair(rng):
+    """Two of one panel, whose unused places differ, and most of the time a number of the second; or any two."""
+    way = rng.randrange(4)
+    if way == 0:
+        return random_raw(rng), random_raw(rng)
+    panel = random_records.any_face(rng, random_records.random_panel(rng))
+    other = panel
+    if way == 1:
+        other = random_records.at_a_limit(rng, panel)
+    if way == 2:
+        other = programs.panel_of(partner(rng, peer.encode(panel)))
+    pair = [raw_of(rng, panel), raw_of(rng, other)]
+    rng.shuffle(pair)
+    return pair
+
+
+def random_boards(rng):
+    """Boards within their limits: t_ch is said of no others. All else is any numbers."""
+    panel = random_records.random_panel(rng)._replace(
+        version=rng.randrange(256), face=rng.randrange(256), bond=rng.randrange(256), rate=rng.randrange(256), strength=rng.randrange(65_536),
+        moment=rng.randrange(2 ** 32), failure_time=rng.randrange(2 ** 32), lamellae=())
+    boards = rng.choice([2, 255]) if len(panel.boards) == 2 else None
+    return programs.raw(panel, rng.randrange(2 ** 64), boards, [random_board(rng) for _ in range(2)], [random_lamella(rng) for _ in range(9)])
+
+
 def cases(call, seed, count):
     """Random ones; of `time`, `grade` and `refusal` every thickness, minute and number from 0 on."""
     rng = random.Random(f"{call} {seed}")
-    for number in range(count):
+    for number in range(0, count, PER.get(call, 1)):
         record = random_records.random_record(rng)
         text = f"case {number}"
         if call == "read":
@@ -163,8 +221,15 @@ def cases(call, seed, count):
         elif call == "eigrade":
             yield random_layers(rng, record), text
         elif call == "planing":
-            if number % CUTS == 0:
-                yield random_records.any_record(rng, random_records.thin_panel(rng)), text
+            yield random_records.any_record(rng, random_records.thin_panel(rng)), text
+        elif call == "panel":
+            yield random_raw(rng), random_minute(rng), rng.choice([rng.randint(0, THIN), rng.randint(0, 2 ** 32 - 1)]), text
+        elif call == "each":
+            yield rng.choice(FLAGS), random_raw(rng), random_minute(rng), rng.randint(0, THIN), text
+        elif call == "pair":
+            yield *random_pair(rng), text
+        elif call == "start":
+            yield random_boards(rng), text
         else:
             yield random_load(rng, record), text
 
@@ -172,7 +237,7 @@ def cases(call, seed, count):
 def pieces(call, all_cases):
     """The cases in groups whose input fits one run."""
     group, size = [], 0
-    most = FEW if call == "planing" else GROUP
+    most = FEW.get(call, GROUP)
     for case in all_cases:
         length = len(programs.asked(call, case))
         if size + length > ROOM or len(group) == most:
@@ -181,42 +246,6 @@ def pieces(call, all_cases):
         group.append(case)
         size += length
     yield group
-
-
-def built_case(rng, number):
-    """A random panel, often past a limit, as Rattle code that builds and prints it, and what peer.py says of it."""
-    panel = random_records.any_face(rng, random_records.random_panel(rng))
-    for _ in range(rng.choice([0, 1, 1, 2, 3])):
-        panel = random_records.at_a_limit(rng, panel)
-    count = rng.choice([len(panel.lamellae)] * 8 + [0, 10, 2 ** 64 - 1])
-    if count == 0:
-        panel = panel._replace(lamellae=())
-    places = list(panel.lamellae) + [(rng.randrange(256), rng.randrange(65_536)) for _ in range(9)]
-    if count > 9:
-        panel = panel._replace(lamellae=tuple(places[:10]))
-    depth, minute = rng.randint(0, peer.thickness_of(panel.lamellae)), rng.randint(0, 360)
-    boards = [f"board({b.kind}, {b.thickness}, {b.joint})" for b in panel.boards]
-    cladding = ["Unclad", "One", "Two"][len(boards)] + (f"({', '.join(boards)})" if boards else "")
-    code = f"""fn case_{number}(rt: &impl Print) -> io::Result<()> {{
-    let mut p = panel(Cladding::{cladding}, {panel.failure_time}, {count}, {[d for d, _ in places[:9]]}, {[t for _, t in places[:9]]});
-    p.version = {panel.version};
-    p.face = {panel.face};
-    p.bond = {panel.bond};
-    p.rate = {panel.rate};
-    p.gap = {panel.gap};
-    p.strength = {panel.strength};
-    p.moment = {panel.moment};
-    print_panel(rt, p, b"case {number}")?;
-    print_record(rt, p, b"case {number}")?;
-    print_sum(rt, p, b"case {number}")?;
-    print_section(rt, p, {depth}, b"case {number}")?;
-    print_char(rt, p, {minute}, b"case {number}")
-}}
-
-"""
-    lines = [line(panel, f"case {number}") for line in (make_cases.refusals_line, make_cases.space_line, make_cases.sum_line)]
-    lines += [make_cases.section_line(panel, depth, f"case {number}"), make_cases.char_line(panel, minute, f"case {number}")]
-    return code, "".join(lines)
 
 
 def first_difference(said, expected):
@@ -233,34 +262,6 @@ def crate_of(repository, program):
 
 def bin_of(repository, program):
     return os.path.join(crate_of(repository, program), "out", program)
-
-
-def compare_built(repository, seed, count):
-    rng = random.Random(f"test_panels {seed}")
-    with tempfile.TemporaryDirectory() as scratch:
-        shutil.copy(os.path.join(repository, "crates.txt"), scratch)
-        shutil.copytree(os.path.join(repository, "crates"), os.path.join(scratch, "crates"), ignore=shutil.ignore_patterns("out"))
-        source = os.path.join(crate_of(scratch, "test_panels"), "src/main.rt")
-        with open(source) as file:
-            support, found, _ = file.read().partition(MAIN)
-        if not found:
-            sys.exit(f"no line `{MAIN.rstrip()}` in {source}")
-        for start in range(0, count, GROUP):
-            numbers = range(start, min(count, start + GROUP))
-            built = [built_case(rng, number) for number in numbers]
-            calls = "".join(f"    case_{number}(rt)?;\n" for number in numbers)
-            with open(source, "w") as file:
-                file.write(f"{support}{''.join(code for code, _ in built)}{MAIN}    let rt = &rt;\n{calls}    Ok(())\n}}\n")
-            run = subprocess.run(["rt", "try"], cwd=os.path.dirname(os.path.dirname(source)), stdin=subprocess.DEVNULL, capture_output=True,
-                                 text=True, errors="replace")
-            at = first_difference(run.stdout, "".join(lines for _, lines in built))
-            if at is not None or run.returncode:
-                code, lines = built[min((at or 0) // BUILT, len(built) - 1)]
-                said = (run.stdout.split("\n") + [""])[at or 0]
-                print(f"test_panels disagrees at\n{code}{lines}  program: {said}\n{run.stderr[-3000:]}")
-                return False
-            print(f"test_panels: {numbers[-1] + 1} agree", flush=True)
-    return True
 
 
 def run_bin(repository, program, asked):
@@ -331,16 +332,14 @@ def arguments():
     words.add_argument("--bin", action="store_true")
     words.add_argument("words", metavar="WORD", nargs="*", default=[])
     given = words.parse_intermixed_args()
-    known = list(programs.CALLS) + ["test_panels"] * (not given.bin)
     for word in given.words:
-        if word not in known:
-            words.error(f"{word} is none of {' '.join(known)}")
-    return given, given.words or known
+        if word not in programs.CALLS:
+            words.error(f"{word} is none of {' '.join(programs.CALLS)}")
+    return given, given.words or list(programs.CALLS)
 
 
 def main():
-    given, names = arguments()
-    words = [name for name in names if name != "test_panels"]
+    given, words = arguments()
     by_program = {program: [word for word in words if programs.program_of(word) == program]
                   for program in dict.fromkeys(map(programs.program_of, words))}
     if given.bin:
@@ -350,8 +349,6 @@ def main():
         needs.installed("rt")
     agree = [compare(run_bin if given.bin else run_try, given.repository, program, calls, given.seed, given.records)
              for program, calls in by_program.items()]
-    if "test_panels" in names:
-        agree.append(compare_built(given.repository, given.seed, given.records))
     sys.exit(not all(agree))
 
 

@@ -8,7 +8,8 @@ from itertools import accumulate
 import needs
 import peer
 import programs
-from peer import EACH_ALONE, FIRST_FACE, LAST_FACE, Board, Panel
+from peer import EACH_ALONE, FIRST_FACE, LAST_FACE, Board, G, Panel
+from programs import raw
 from random_records import greatest_moment
 
 A, F, H, O, P = b"AFHOP"
@@ -16,10 +17,7 @@ ACROSS, ALONG = 0, 1
 
 # ---------------------------------------------------------------- Panels
 
-# The document's panel G: 30 along, 40 across, 30 along (mm).
-G = Panel(version=1, face=0, bond=0, rate=65, gap=0, strength=240, moment=3_000, failure_time=0, boards=(),
-          lamellae=((ALONG, 300), (ACROSS, 400), (ALONG, 300)))
-# Its panel that recovers: 10 along, 60 across, 60 along.
+# The document's panel that recovers: 10 along, 60 across, 60 along.
 RECOVERS = G._replace(moment=15_000, lamellae=((ALONG, 100), (ACROSS, 600), (ALONG, 600)))
 # The same turned round: the far edge is the outer one.
 TURNED = RECOVERS._replace(lamellae=RECOVERS.lamellae[::-1])
@@ -332,9 +330,17 @@ def wall_records(*faces):
             yield peer.encode(faced(panel, face)), f"{text}, face {face}"
 
 
+def letter_cases():
+    """(panel, text): each byte as the letter of a lone board of 20.0 mm, which is a thickness of every type; F has its time."""
+    for letter in range(256):
+        yield one(letter, 200, failure_time=peer.t_ch(one(F, 200)) if letter == F else 0), f"letter {letter:02x}"
+
+
 def record_cases():
     for panel, text in panel_cases():
         yield peer.encode(panel), text
+    for panel, text in letter_cases():
+        yield peer.encode(panel._replace(lamellae=((ALONG, 300),))), text
     yield from length_cases()
     yield from version_cases()
     for panel, text in reading_cases():
@@ -1112,10 +1118,33 @@ def planing_cases():
 
 
 # ---------------------------------------------------------------- test_panels
-# The panels that the program builds itself, in its order. Unused places have no counterpart here, and a count of ten or more stands
-# as ten lamellae.
+# Raw panels: what no record gives too. Where nothing else is said a panel is asked for minute 60 and a depth of 25.0 mm.
 
-def built_panels():
+FULL_BOARD, FULL_LAMELLA = Board(255, 65_535, 255), (255, 65_535)
+GREATEST_COUNT = 2 ** 64 - 1
+
+
+def full(panel):
+    """The panel with every unused place at its greatest."""
+    return raw(panel, unused_boards=(FULL_BOARD,) * 2, unused=(FULL_LAMELLA,) * 9)
+
+
+def raw_panels():
+    """(raw panel, text): one number out of its limits, or none."""
+    for panel, text in given_panels():
+        yield raw(panel), text
+    yield raw(G._replace(lamellae=()), unused=G.lamellae), "count 0"
+    for count in (10, GREATEST_COUNT):
+        yield raw(G._replace(lamellae=((ALONG, 300),) * 9), count=count), f"count {count:,}"
+    yield raw(two(A, H), boards=3), "A over H, 3 boards counted"
+    yield raw(two(A, H), boards=255), "A over H, 255 boards counted"
+    yield raw(two(A, H), boards=1), "A over H, one board counted"
+    yield raw(two(A, H), boards=0), "A over H, no board counted"
+    yield b"", "no numbers"
+
+
+def given_panels():
+    """(panel, text)"""
     yield G, "G"
     yield G._replace(bond=255), "bond 255"
     yield G._replace(gap=2), "gap 2"
@@ -1144,47 +1173,15 @@ def built_panels():
     yield two(O, A), "O over A"
     yield two(A, O), "O under A"
     yield two(P, P), "P over P"
-    yield G._replace(lamellae=()), "count 0"
-    for count in ("10", "18,446,744,073,709,551,615"):
-        yield G._replace(lamellae=((ALONG, 300),) * 10), f"count {count}"
-    yield G._replace(lamellae=((ALONG, 400),) * 9), "count 9, arrays full"
+    nine = G._replace(lamellae=((ALONG, 400),) * 9)
+    yield nine._replace(moment=greatest_moment(nine)), "count 9, arrays full"
     yield G._replace(lamellae=((ALONG, 445),) * 9), "count 9, sum 4,005"
     yield G._replace(lamellae=((ALONG, 65_535),) * 9), "nine lamellae of 65,535"
     yield G._replace(lamellae=((ALONG, 65_535),)), "one lamella of 65,535"
     yield G._replace(lamellae=((255, 300), (255, 400), (255, 300))), "direction 255"
     yield G._replace(lamellae=((ACROSS, 300), (ACROSS, 400), (ACROSS, 300))), "all across"
     yield G._replace(lamellae=((ALONG, 0), (ACROSS, 0), (ALONG, 0))), "thickness 0"
-
-
-def refusals_line(panel, text):
-    number = peer.panel_refusal(panel)
-    return f"{' '.join([str(number)] * 11)} {text}\n"
-
-
-def answer_line(panel, answer, text):
-    """What a call answers of the panel, or the refusal, and the text."""
-    refusal = peer.panel_refusal(panel)
-    return f"{programs.refused(refusal) if refusal else answer(panel)} {text}\n"
-
-
-def sum_line(panel, text):
-    return answer_line(panel, peer.ei_sum, text)
-
-
-def space_line(panel, text):
-    filled = bytes([programs.FILLED] * programs.SPACE)
-    return f"{peer.write(panel, filled)[1].hex()} {text}\n"
-
-
-def section_line(panel, depth, text):
-    return answer_line(panel, lambda p: " ".join(map(str, peer.section(p, depth)[:5])), text)
-
-
-def char_line(panel, minute, text):
-    return answer_line(panel, lambda p: peer.micrometres(p, minute), text)
-
-
-def version_lines():
+    yield G._replace(lamellae=G.lamellae + (FULL_LAMELLA,)), "a full place used"
     loose = G._replace(bond=255)
     for panel, version, face, text in (
             (G, 0, 0, "version 0"), (G, 3, 0, "version 3"), (G, 0, 3, "version 0, face 3"), (G, 1, 1, "version 1, face 1"),
@@ -1192,59 +1189,137 @@ def version_lines():
             (G, 2, 1, "version 2, face 1"), (G, 2, 2, "version 2, face 2"), (G, 2, 3, "version 2, face 3"),
             (G, 2, 255, "version 2, face 255"), (loose, 3, 0, "version 3, bond 255"), (loose, 1, 1, "version 1, face 1, bond 255"),
             (loose, 2, 2, "version 2, face 2, bond 255")):
-        yield refusals_line(panel._replace(version=version, face=face), text)
+        yield panel._replace(version=version, face=face), text
 
 
-def fire_lines():
-    wall = WALL._replace(bond=1, moment=3_000)
-    for panel in (faced(wall, LAST_FACE), faced(wall, EACH_ALONE)):
-        yield refusals_line(panel, "wall, unused places full")
-        for places in ("full", "0"):
-            yield space_line(panel, f"record of the wall with unused places {places}")
-        for places in ("full", "0"):
-            yield sum_line(panel, f"EI sum of the wall with unused places {places}")
-        for places in ("full", "0"):
-            yield section_line(panel, 250, f"section of the wall with unused places {places}")
-        for places in ("full", "0"):
-            yield char_line(panel, 60, f"char of the wall with unused places {places}")
-        yield f"{programs.compared(panel, panel)} walls, unused places full and 0\n"
-    for a, b, text in (
-            (wall, faced(wall, FIRST_FACE), "versions 1 and 2, face 0"), (wall, faced(wall, LAST_FACE), "version 1 and face 1"),
-            (faced(wall, LAST_FACE), faced(wall, EACH_ALONE), "faces 1 and 2"),
-            (wall._replace(face=1), wall._replace(version=3), "the first meets 16, the second 2"),
-            (wall._replace(version=0), faced(wall, 3), "the first meets 2, the second 16")):
-        yield f"{programs.compared(a, b)} {text}\n"
+# 20 along, 30 across, 40 along, falling, as its faces differ in every answer.
+FALLING = WALL._replace(bond=1, moment=3_000)
 
 
-def built_lines():
-    for panel, text in built_panels():
-        yield refusals_line(panel, text)
-    yield refusals_line(G, "unused places full")
-    yield space_line(G, "record of the panel with unused places full")
-    yield space_line(G, "record of the panel with unused places 0")
-    yield f"{programs.compared(G, G)} unused places full and 0\n"
-    yield sum_line(G, "EI sum of the panel with unused places full")
-    yield sum_line(G, "EI sum of the panel with unused places 0")
-    yield refusals_line(G._replace(lamellae=G.lamellae + ((255, 65_535),)), "a full place used")
-    fast, loose, other = G._replace(rate=255), G._replace(bond=255), G._replace(strength=400, moment=0)
-    for a, b, text in (
-            (fast, loose, "the first meets 4, the second 3"), (loose, fast, "the first meets 3, the second 4"),
-            (G, loose, "the second alone meets 3"), (other, G, "other strength, moment and unused places"),
-            (other._replace(bond=1), G, "other bond too")):
-        yield f"{programs.compared(a, b)} {text}\n"
-    yield from version_lines()
-    yield from fire_lines()
-    greatest = Panel(255, 255, 255, 255, 255, 65_535, 2 ** 32 - 1, 2 ** 32 - 1, (Board(255, 65_535, 255),) * 2, ((255, 65_535),) * 10)
-    yield refusals_line(faced(greatest, EACH_ALONE), "all past the face at their greatest")
-    yield refusals_line(greatest, "all fields at their greatest")
-    yield space_line(greatest, "space after all fields at their greatest")
+def unused_panels():
+    """(raw panel, text): the same answers with every unused place full and with every one 0."""
+    yield full(G), "unused places full"
+    for face in (FIRST_FACE, LAST_FACE, EACH_ALONE):
+        for boards, name in (((), "wall"), ((Board(A, 125, 100),), "wall behind A"), ((Board(A, 125, 100), Board(H, 125, 100)), "wall behind A and H")):
+            wall = faced(FALLING._replace(boards=boards), face)
+            yield full(wall), f"{name}, face {face}, unused places full"
+            yield raw(wall), f"{name}, face {face}, unused places 0"
+
+
+# A number past each line's limit, in the table's order.
+FAULTS = ((2, {"version": 0}), (16, {"face": 3}), (3, {"bond": 2}), (4, {"rate": 49}), (5, {"strength": 0}), (7, {"boards": (Board(0, 125, 100),)}),
+          (8, {"boards": (Board(A, 89, 100),)}), (9, {"failure_time": 1}), (10, {"lamellae": ()}), (11, {"lamellae": ((ALONG, 99),)}),
+          (12, {"lamellae": ((ACROSS, 300),)}), (13, {"moment": 43_057}))
+
+
+def minute_panels():
+    """(raw panel, minute, text): 15 is looked at last."""
+    for minute in (0, 360, 361, 65_535):
+        yield raw(faced(G, EACH_ALONE)), minute, f"G, face 2, minute {minute:,}"
+    for refusal, fault in FAULTS:
+        panel = faced(G, FIRST_FACE)._replace(**fault)
+        assert peer.panel_refusal(panel) == refusal
+        for minute in (361, 65_535):
+            yield raw(panel), minute, f"meets {refusal}, minute {minute:,}"
+
+
+def corrected_panels():
+    """(raw panel, text): every number at its greatest, and one after the other put right, until there is nothing to refuse."""
+    panel = Panel(255, 255, 255, 255, 255, 65_535, 2 ** 32 - 1, 2 ** 32 - 1, (FULL_BOARD,) * 2, (FULL_LAMELLA,) * 9)
+    yield raw(panel, GREATEST_COUNT, 255), "all fields at their greatest"
+    outer, inner = panel.boards
+    for text, right in (
+            ("version", {"version": 2}), ("face", {"face": EACH_ALONE}), ("bond", {"bond": 1}), ("gap", {"gap": 1}), ("rate", {"rate": 100}),
+            ("strength", {"strength": 400}), ("moment", {"moment": 1_000_000}),
+            ("outer letter", {"boards": (outer._replace(kind=F), inner)}),
+            ("inner letter", {"boards": (outer._replace(kind=F), inner._replace(kind=F))}),
+            ("outer thickness", {"boards": (Board(F, 250, 255), inner._replace(kind=F))}),
+            ("inner thickness", {"boards": (Board(F, 250, 255), Board(F, 250, 255))}),
+            ("outer joint", {"boards": (Board(F, 250, 100), Board(F, 250, 255))}),
+            ("inner joint", {"boards": (Board(F, 250, 100), Board(F, 250, 100))}),
+            ("failure time", {"failure_time": 360_000})):
+        panel = panel._replace(**right)
+        yield raw(panel, GREATEST_COUNT, 255), f"put right up to the {text}"
+    yield raw(panel), "put right up to the count"
+    for text, lamellae in (
+            ("range of the directions", ((ACROSS, 65_535),) * 9), ("range of the thicknesses", ((ACROSS, 600),) * 9),
+            ("sum of the thicknesses", ((ACROSS, 444),) * 9), ("last lamella, along", ((ACROSS, 444),) * 8 + ((ALONG, 444),)),
+            ("others, along", ((ALONG, 444),) * 9)):
+        panel = panel._replace(lamellae=lamellae)
+        yield raw(panel), f"put right up to the {text}"
+
+
+def raw_cases():
+    """(raw panel, minute, depth, text)"""
+    for data, text in list(raw_panels()) + list(unused_panels()):
+        yield data, 60, 250, text
+    for data, minute, text in minute_panels():
+        yield data, minute, 250, text
+    for minute in (360, 361):
+        for data, text in corrected_panels():
+            yield data, minute, 2 ** 32 - 1, f"{text}, minute {minute}"
+
+
+# Places of a raw panel.
+RAW_VERSION, RAW_FACE, RAW_OUTER, RAW_INNER = 0, 1, programs.BOARDS_AT + 1, programs.BOARDS_AT + 5
+RAW_COUNT = programs.COUNT_AT + 7  # its lowest byte
+
+
+def each_cases():
+    """(place, raw panel, minute, depth, text)"""
+    for at, data, text in (
+            (RAW_OUTER, raw(one(A, 225)), "letter of a lone board of 22.5 mm"),
+            (RAW_OUTER, raw(one(F, 125, failure_time=49_000)), "letter of a lone board of 12.5 mm, given 49,000"),
+            (RAW_INNER, raw(two(H, A)), "letter under H"),
+            (RAW_INNER, raw(two(F, F, failure_time=49_000)), "letter under F, given 49,000"),
+            (RAW_OUTER, raw(two(A, H)), "letter over H"),
+            (RAW_VERSION, raw(G), "version"),
+            (RAW_FACE, raw(faced(FALLING, FIRST_FACE)), "face in version 2"),
+            (RAW_COUNT, raw(G._replace(lamellae=((ALONG, 110), (ACROSS, 110)) * 4 + ((ALONG, 110),), moment=10)), "count"),
+            (programs.DIRECTIONS_AT, raw(G), "first direction")):
+        yield at, data, 60, 250, text
+
+
+def pair_cases():
+    """(raw panel, raw panel, text)"""
+    fast, loose = G._replace(rate=255), G._replace(bond=255)
+    yield raw(G), raw(G), "unused places 0"
+    yield full(G), raw(G), "unused places full and 0"
+    yield raw(fast), raw(loose), "the first meets 4, the second 3"
+    yield raw(loose), raw(fast), "the first meets 3, the second 4"
+    yield raw(G), raw(loose), "the second alone meets 3"
+    other = G._replace(strength=400, moment=0)
+    yield raw(other, unused=((ALONG, 7),) * 6), raw(G), "other strength, moment and unused places"
+    yield raw(other._replace(bond=1), unused=((ALONG, 7),) * 6), raw(G), "other bond too"
+    for face in (LAST_FACE, EACH_ALONE):
+        yield full(faced(FALLING, face)), raw(faced(FALLING, face)), f"walls, face {face}, unused places full and 0"
+    yield full(FALLING), raw(faced(FALLING, FIRST_FACE)), "versions 1 and 2, face 0"
+    yield full(FALLING), raw(faced(FALLING, LAST_FACE)), "version 1 and face 1"
+    yield full(faced(FALLING, LAST_FACE)), raw(faced(FALLING, EACH_ALONE)), "faces 1 and 2"
+    yield full(FALLING._replace(face=1)), raw(FALLING._replace(version=3)), "the first meets 16, the second 2"
+    yield full(FALLING._replace(version=0)), raw(faced(FALLING, 3)), "the first meets 2, the second 16"
+    yield full(one()), raw(one()), "behind A, unused places full and 0"
+    yield full(one()), raw(two(A, A)), "behind A and behind two A"
+    yield raw(two(A, H), boards=1), raw(one()), "behind A, an inner board that is not counted"
+    yield raw(two(A, H), boards=255), raw(two(A, H)), "two boards counted as 255"
+    yield raw(G, unused=((ALONG, 300),)), raw(G._replace(lamellae=G.lamellae + ((ALONG, 300),))), "a lamella more"
+    for a, b in ((GREATEST_COUNT, 10), (10, 0), (3, 10), (0, 3)):
+        yield raw(G, count=a), raw(G, count=b), f"counts {a:,} and {b:,}"
+    for (first, fault), (second, other) in zip(FAULTS, FAULTS[1:]):
+        a, b = faced(G, FIRST_FACE)._replace(**fault), faced(G, FIRST_FACE)._replace(**other)
+        yield raw(b), raw(a), f"the first meets {second}, the second {first}, raw"
+
+
+def start_cases():
+    """(raw panel, text)"""
     a, f = Board(A, 125, 100), Board(F, 125, 100)
     for gap, boards, text in (
             (0, (), "unclad"), (0, (a,), "of A 12.5"), (1, (a,), "of A 12.5, wide gap"), (0, (a, a), "of two A 12.5"),
             (0, (f, f), "of two F 12.5"), (1, (f, f), "of two F 12.5, wide gap"), (1, (Board(H, 90, 100),), "of H 9.0, wide gap"),
             (0, (Board(O, 200, 100),), "of O 20.0"), (1, (Board(O, 200, 100),), "of O 20.0, wide gap"),
             (0, (Board(P, 400, 100),), "of P 40.0")):
-        yield f"{peer.t_ch(G._replace(gap=gap, boards=boards))} t_ch {text}\n"
+        yield raw(peer.BLANK._replace(gap=gap, boards=boards)), f"t_ch {text}"
+        yield full(G._replace(gap=gap, boards=boards)), f"t_ch {text}, unused places full"
 
 
 # ---------------------------------------------------------------- Files
@@ -1257,7 +1332,8 @@ CASES = {"read": record_cases, "write": write_cases, "build": build_cases,
          "card": card_cases, "refusal": refusal_cases, "load": panel_record_cases, "seconds": seconds_cases,
          "reserve": reserve_cases,
          "loadgrade": grade_panel_cases, "eigrade": grade_panel_cases, "reigrade": grade_panel_cases,
-         "planing": planing_cases}
+         "planing": planing_cases,
+         "panel": raw_cases, "each": each_cases, "pair": pair_cases, "start": start_cases}
 
 # the program that prints a card: what it reads
 CARD_INPUTS = {"card": g, "card_empty": b"", "card_long": peer.encode(faced(LONGEST, FIRST_FACE)) + bytes(1),
@@ -1293,9 +1369,6 @@ def main():
         store(repository, program, "stdin", given.encode())
         store(repository, program, "stdout", expected.encode())
         print(f"{program}: {len(given)} bytes")
-    built = list(built_lines())
-    store(repository, "test_panels", "stdout", "".join(built).encode())
-    print(f"test_panels: {len(built)} lines")
     for program, record in CARD_INPUTS.items():
         store(repository, program, "stdin", record)
         store(repository, program, "stdout", peer.card_text(record))

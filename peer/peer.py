@@ -39,6 +39,9 @@ class Panel(NamedTuple):
 
 # What stands beside a refusal: every number 0, no board, no lamella.
 BLANK = Panel(0, 0, 0, 0, 0, 0, 0, 0, (), ())
+# The document's panel G: 30 along, 40 across, 30 along (mm).
+G = Panel(version=1, face=FIRST_FACE, bond=0, rate=65, gap=0, strength=240, moment=3_000, failure_time=0, boards=(),
+          lamellae=((ALONG, 300), (0, 400), (ALONG, 300)))
 
 VERSION_AT = 2
 HEAD = 14  # bytes before the first board, from the bond on
@@ -685,6 +688,7 @@ def places_from_fire(panel):
     return places[::-1] if panel.face == 1 else places
 
 
+@cache
 def least_cut(panel):
     """(place, tenths) of the least cut of an accepted panel that lowers its REI grade, None where no cut does."""
     _, least = rei_grade(panel)

@@ -1,4 +1,4 @@
-// One of six test programs that are alike, which stays as it is: `rt ci` holds a program to one stored input.
+// One of seven test programs that are alike, which stays as it is: `rt ci` holds a program to one stored input.
 // Its stored input is about cards, load and the grades of panels: `card`, `refusal`, `load`, `seconds`, `reserve`, `loadgrade`, `eigrade`,
 // `reigrade`.
 #![tactic(auto)]

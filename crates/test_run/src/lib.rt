@@ -2,8 +2,8 @@
 // and what follows is the call's. The answer begins with the same word. A line with another first word gives `unknown` and what follows. A
 // new call is an arm below, and a module where more is printed than an answer of `answers`.
 //
-// A record (HEX, in hexadecimal) stands for its panel, and a refused one for a blank panel. Where nothing else is said, a line is answered
-// by what its call answers, or the refusal, and by TEXT:
+// A record (HEX, in hexadecimal) stands for its panel, and a refused one for a blank panel; a raw panel (RAW) is given number by number
+// (`raw`, `panels`). Where nothing else is said, a line is answered by what its call answers, or the refusal, and by TEXT:
 //
 // - `build HEX HEX TEXT`: whether the two panels are the same build.
 // - `section DEPTH HEX TEXT`: the section at a depth in tenths of mm: N, P, Q, lo and hi and whether the depth passes.
@@ -19,6 +19,8 @@ mod cards;
 mod chars;
 mod lending;
 mod lines;
+mod panels;
+mod raw;
 mod reads;
 mod records;
 mod sections;
@@ -73,6 +75,10 @@ fn answer(rt: &impl Print, text: &[u8]) -> io::Result<()> {
         b"eigrade" => line.by_panel(rt, |p| ei_grade(p).map(minutes)),
         b"reigrade" => line.by_panel(rt, |p| rei_grade(p).map(minutes)),
         b"planing" => line.by_panel(rt, |p| planing(p).map(LeastCut)),
+        b"panel" => panels::answer_panel(rt, line),
+        b"each" => panels::answer_each(rt, line),
+        b"pair" => line.by_words(rt, panels::pair),
+        b"start" => line.by_word(rt, panels::start),
         _ => output::unknown(rt, line.rest),
     }
 }

@@ -19,6 +19,13 @@ impl<'a> Line<'a> {
         Line { word, rest }
     }
 
+    // The next word, and the line without it.
+    pub fn next(self) -> (&'a [u8], Line<'a>) {
+        let (next, rest) = split_word(self.rest);
+        let word = self.word;
+        (next, Line { word, rest })
+    }
+
     fn print<T: Answer + Drop>(self, rt: &impl Print, answer: T, name: &[u8]) -> io::Result<()> {
         output::text(rt, self.word)?;
         output::text(rt, b" ")?;

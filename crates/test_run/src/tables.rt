@@ -10,8 +10,16 @@ use std::io;
 // What the call answers, and the 400 numbers.
 #[derive(Drop)]
 pub struct Filled {
-    answer: Result<(), Refusal>,
+    pub answer: Result<(), Refusal>,
     entries: [u32; 400],
+}
+
+impl Filled {
+    // Whether all numbers past the table (on a refusal all 400) are unchanged.
+    pub fn past_kept(&self) -> bool {
+        let count = if self.answer.is_ok() { 361 } else { 0 };
+        self.entries[count..].iter().all(|entry| *entry == 7)
+    }
 }
 
 // The sum of the entries, and the sum of each times its place: from the last entry on, what has been summed so far is added up.

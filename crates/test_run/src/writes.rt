@@ -10,8 +10,16 @@ use test_lines::output;
 // What the writer answers, and the 64 bytes.
 #[derive(Drop)]
 pub struct Written {
-    answer: Result<usize, Refusal>,
+    pub answer: Result<usize, Refusal>,
     bytes: [u8; 64],
+}
+
+impl Written {
+    // Whether all bytes past those written (on a refusal all 64) are unchanged.
+    pub fn past_kept(&self) -> bool {
+        let count = self.answer.unwrap_or(0);
+        self.bytes[count.min(64)..].iter().all(|byte| *byte == 238)
+    }
 }
 
 impl Answer for Written {
