@@ -226,6 +226,8 @@ def lamella_count_cases():
         yield patched(peer.encode(G._replace(lamellae=((ALONG, 300),) * 9)), lamella_count_at, count), f"{count} counted, nine there"
     yield peer.encode(G._replace(lamellae=((ALONG, 300),) * 10)), "ten lamellae"
     yield peer.encode(G._replace(lamellae=())), "no lamella"
+    for panel, text in ((one(), "a board"), (two(A, H), "two boards")):
+        yield peer.encode(panel._replace(lamellae=())), f"{text} and no lamella"
     bare = G._replace(moment=0, lamellae=((ALONG, 100),))
     yield patched(peer.encode(bare), lamella_count_at, 2), "two lamellae counted, one there"
     yield patched(peer.encode(bare._replace(failure_time=1)), lamella_count_at, 2), "two lamellae counted, one there, given 1, unclad"
@@ -762,6 +764,7 @@ def char_panel_cases():
     yield from starred_char_cases()
     yield from char_boundary_cases()
     yield from passed_line_panels()
+    yield from first_run_panels()
     yield from char_kind_cases()
     for panel, text in reading_cases():
         yield panel, READING_MINUTES.get(text, ()), text
@@ -976,6 +979,36 @@ def face_cases():
         yield peer.encode(faced(panel, EACH_ALONE)), f"{text}, face 2"
 
 
+def grade_walls():
+    """(panel, text): the lesser EI is that of another face for each, and with it the grade of EI, and REI."""
+    yield layered(400, 100), "40.0 and 10.0 along"
+    yield layered(100, 100, 226, rate=50), "10.0, 10.0 and 22.6 along"
+    yield layered(305, 349, 100, rate=50), "30.5, 34.9 and 10.0 along"
+
+
+def grade_wall_records():
+    """(record, text)"""
+    for panel, text in grade_walls():
+        for face in (FIRST_FACE, LAST_FACE, EACH_ALONE):
+            yield peer.encode(faced(panel, face)), f"{text}, face {face}"
+
+
+# G behind type F, t_ch 2.2 min and t_f 5: the first run ends at 25 mm, and not at 2·t_f.
+SOON_FAILED = G._replace(gap=1, boards=(Board(F, 90, 100),), failure_time=5_000)
+# G behind two F, the inner one thicker than the outer: k2 goes by the inner.
+THICKER_INSIDE = G._replace(boards=(Board(F, 90, 100), Board(F, 250, 100)), failure_time=100_000)
+
+
+def first_run_panels():
+    """(panel, minutes, text)"""
+    yield SOON_FAILED, (4, 5, 10, 23, 24, 30), "t_f 5 min, before 2 t_f is at 25 mm"
+    yield SOON_FAILED._replace(failure_time=2_200), (2, 3, 4, 5, 30), "t_f at t_ch, 2.2 min"
+    yield SOON_FAILED._replace(failure_time=2_201), (2, 3, 4, 5, 30), "t_f a thousandth after t_ch"
+    yield THICKER_INSIDE, (90, 100, 110), "two F, the inner one thicker"
+    yield THICKER_INSIDE._replace(boards=THICKER_INSIDE.boards[::-1]), (90, 100, 110), "two F, the outer one thicker"
+    yield floor(100, 100, 300, failure_time=41_000, moment=100), (40, 41, 45, 46, 55), "a line passed, the next nearer than 25 mm from the face"
+
+
 def card_cases():
     """(record, space, text)"""
     for panel, text in load_panels():
@@ -985,7 +1018,9 @@ def card_cases():
     for panel, _, text in passed_line_panels():
         yield peer.encode(panel), 200, text
     yield peer.encode(LONGEST), 200, "the longest record"
-    for record, text in list(second_records()) + list(face_cases()):
+    for panel, _, text in first_run_panels():
+        yield peer.encode(panel), 200, text
+    for record, text in list(second_records()) + list(face_cases()) + list(grade_wall_records()):
         yield record, 200, text
     for record, text in list(unstarred_cases()) + list(refused_cases()):
         yield record, 200, text
@@ -1019,6 +1054,8 @@ def seconds_cases():
     """(record, text)"""
     yield from panel_record_cases()
     yield from second_records()
+    for panel, _, text in first_run_panels():
+        yield peer.encode(panel), text
     for panel, text in second_walls():
         for face in (FIRST_FACE, LAST_FACE):
             yield peer.encode(faced(panel, face)), f"{text}, face {face}"
@@ -1048,6 +1085,7 @@ def reserve_cases():
 def grade_panel_cases():
     """(record, text)"""
     yield from panel_record_cases()
+    yield from grade_wall_records()
     yield peer.encode(SHORTEST), "one lamella of 10, EI below 10"
     yield peer.encode(crossed(60, 60, 60, 60, 60)), "300 mm, EI above 240"
     for tenths in range(1, 4):
@@ -1090,6 +1128,10 @@ def planing_panels():
     yield layered(-250, 120, -100, -200, moment=468, rate=100), "REI 15, down to 10.0 mm"
     yield layered(101, -300, 250, 250, moment=465, face=EACH_ALONE, bond=1), "REI 60, the one tenth that may be taken"
     yield from equal_cuts()
+    yield from deep_cuts()
+    for panel, text in grade_walls():
+        for face in (FIRST_FACE, LAST_FACE, EACH_ALONE):
+            yield faced(panel, face), f"{text}, face {face}"
     for face in (FIRST_FACE, LAST_FACE, EACH_ALONE):
         yield faced(WALL, face), f"wall, face {face}"
         yield faced(falls(behind(WALL, (A, 125)), 65), face), f"wall behind A, falling, face {face}"
@@ -1108,6 +1150,12 @@ def equal_cuts():
                                     ((-250, 110, 300, -250), 3_699, 50, 0)))):
         for lamellae, moment, rate, bond in panels:
             yield layered(*lamellae, moment=moment, face=face, rate=rate, bond=bond), f"equal at several places, {text}, {len(lamellae)} lamellae, rate {rate}"
+
+
+def deep_cuts():
+    """(panel, text): nothing less than most of a lamella lowers the grade."""
+    yield (faced(behind(layered(600, -600, 200, moment=796, rate=54, bond=1)._replace(strength=400), (F, 250), (F, 150),
+                        failure_time=80_601, gap=1), LAST_FACE), "49.9 mm off the lamella farthest from the fire")
 
 
 def planing_cases():

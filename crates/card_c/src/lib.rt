@@ -7,10 +7,21 @@ ghost use Rattle.limits.specs.Numbers.{by_number};
 ghost use Rattle.fire_card.specs.Answers.{card_answer, card_after, refusal_answer, refusal_after};
 ghost use Rattle.card_c.specs.Exported.{exported, Short};
 ghost use Rattle.card_c.specs.Planing.{record_planing, exported_cut};
+ghost use Rattle.card_c.specs.Version.{last_request};
 
 use limits::refusal::Refusal;
 use planing::Cut;
 use planing::search::least_cut;
+
+// Document 01 is followed with the requests of document 02 from the first to this one.
+const LAST_REQUEST: u32 = 7;
+
+// The last request that is in: for C, to hold the library to its header.
+pub fn yurbantse_version() -> u32
+    ensures { result ≡ last_request }
+{
+    LAST_REQUEST
+}
 
 // An answer as one number. No open call: the bytes written must be those of a card at most. The number and its cast are kept as they are: C
 // is answered one `int32_t`, which holds the bytes by what is required; `try_from` would add a branch that never runs.

@@ -1,5 +1,5 @@
 // The static library for programs in C: one export for each function of `card_c`, with its clauses. `c/yurbantse.h` declares them. They ask
-// nothing of their caller. The three and their clauses are kept as they are beside those of `card_c`: a crate is a library or a static
+// nothing of their caller. The four and their clauses are kept as they are beside those of `card_c`: a crate is a library or a static
 // library and not both, and demands stands on `card_c`.
 #![tactic(auto)]
 
@@ -7,6 +7,15 @@ ghost use Rattle.std.specs.Prelude.{◌≡◌};
 ghost use Rattle.fire_card.specs.Answers.{card_answer, card_after, refusal_answer, refusal_after};
 ghost use Rattle.card_c.specs.Exported.{exported};
 ghost use Rattle.card_c.specs.Planing.{record_planing, exported_cut};
+ghost use Rattle.card_c.specs.Version.{last_request};
+
+// Which requests of document 02 are in, by the last of them.
+#[unsafe(no_mangle)]
+pub extern "C" fn yurbantse_version() -> u32
+    ensures { result ≡ last_request }
+{
+    card_c::yurbantse_version()
+}
 
 // The card of a record: the bytes written, or minus the refusal's number.
 #[unsafe(no_mangle)]

@@ -16,10 +16,42 @@ use Rattle.load.specs.LoadMinute.{every_from, time_test}
 use Rattle.load.specs.FailureTests.{fails_right_after}
 use Rattle.basic_times.specs.Rules.{largest_time}
 use Rattle.layers.specs.Layers.{time_of, joint_of, positioned, with_layer, sum_after, ei_sum}
+use Rattle.numbers.specs.Least.{least}
+use Rattle.grades.specs.Grades.{greatest_to}
+use Rattle.load.specs.Lasting.{lasts}
+use Rattle.planing.specs.Cuts.{thickness_at, thinned}
+use Rattle.cases.proofs.Planed.{first_by, none_below}
 use Rattle.cases.specs.Cases.{EveryRowHolds}
-use Rattle.cases.specs.Further.{further}
-use Rattle.cases.proofs.Tested.{phase_number, agree, all_tested}
+use Rattle.cases.specs.Further.{charring_rows, wood_board_rows, fire_rows, first_run_rows, rating_rows, cut_rows, further}
+use Rattle.cases.proofs.Tested.{phase_number, agree, all_tested, both}
+
+charring_rows_hold : EveryRowHolds charring_rows
+unfolding charring_rows agree phase_number largest lamellae_of thickness counted_from total lowest highest section_of carries some material_of lamellae_in panel_of record_refusal panel_refusal failure_of k2 clad lines_from bond_lines line_end intact_end passed_end first_end stretches way charred char_at effective_at phase_on phase_at every_from time_test fails_right_after largest_time time_of joint_of positioned with_layer sum_after ei_sum
+charring_rows_hold = all_tested charring_rows tt
+
+wood_board_rows_hold : EveryRowHolds wood_board_rows
+unfolding wood_board_rows agree phase_number largest lamellae_of thickness counted_from total lowest highest section_of carries some material_of lamellae_in panel_of record_refusal panel_refusal failure_of k2 clad lines_from bond_lines line_end intact_end passed_end first_end stretches way charred char_at effective_at phase_on phase_at every_from time_test fails_right_after largest_time time_of joint_of positioned with_layer sum_after ei_sum
+wood_board_rows_hold = all_tested wood_board_rows tt
+
+fire_rows_hold : EveryRowHolds fire_rows
+unfolding fire_rows agree phase_number largest lamellae_of thickness counted_from total lowest highest section_of carries some material_of lamellae_in panel_of record_refusal panel_refusal failure_of k2 clad lines_from bond_lines line_end intact_end passed_end first_end stretches way charred char_at effective_at phase_on phase_at every_from time_test fails_right_after largest_time time_of joint_of positioned with_layer sum_after ei_sum
+fire_rows_hold = all_tested fire_rows tt
+
+first_run_rows_hold : EveryRowHolds first_run_rows
+unfolding first_run_rows agree phase_number largest lamellae_of thickness counted_from total lowest highest section_of carries some material_of lamellae_in panel_of record_refusal panel_refusal failure_of k2 clad lines_from bond_lines line_end intact_end passed_end first_end stretches way charred char_at effective_at phase_on phase_at every_from time_test fails_right_after largest_time time_of joint_of positioned with_layer sum_after ei_sum
+first_run_rows_hold = all_tested first_run_rows tt
+
+rating_rows_hold : EveryRowHolds rating_rows
+unfolding rating_rows agree least greatest_to lasts thickness_at thinned first_by none_below phase_number largest lamellae_of thickness counted_from total lowest highest section_of carries some material_of lamellae_in panel_of record_refusal panel_refusal failure_of k2 clad lines_from bond_lines line_end intact_end passed_end first_end stretches way charred char_at effective_at phase_on phase_at every_from time_test fails_right_after largest_time time_of joint_of positioned with_layer sum_after ei_sum
+rating_rows_hold = all_tested rating_rows tt
+
+cut_rows_hold : EveryRowHolds cut_rows
+unfolding cut_rows agree least greatest_to lasts thickness_at thinned first_by none_below phase_number largest lamellae_of thickness counted_from total lowest highest section_of carries some material_of lamellae_in panel_of record_refusal panel_refusal failure_of k2 clad lines_from bond_lines line_end intact_end passed_end first_end stretches way charred char_at effective_at phase_on phase_at every_from time_test fails_right_after largest_time time_of joint_of positioned with_layer sum_after ei_sum
+cut_rows_hold = all_tested cut_rows tt
 
 pub further_hold : EveryRowHolds further
-unfolding further agree phase_number largest lamellae_of thickness counted_from total lowest highest section_of carries some material_of lamellae_in panel_of record_refusal panel_refusal failure_of k2 clad lines_from bond_lines line_end intact_end passed_end first_end stretches way charred char_at effective_at phase_on phase_at every_from time_test fails_right_after largest_time time_of joint_of positioned with_layer sum_after ei_sum
-further_hold = all_tested further tt
+further_hold =
+    both charring_rows _ charring_rows_hold
+    (both wood_board_rows _ wood_board_rows_hold
+    (both fire_rows _ fire_rows_hold
+    (both first_run_rows _ first_run_rows_hold (both rating_rows _ rating_rows_hold cut_rows_hold))))

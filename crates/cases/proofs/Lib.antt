@@ -1,3 +1,4 @@
+pub mod Planed
 pub mod Tested
 pub mod Claim
 pub mod Further

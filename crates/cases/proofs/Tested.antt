@@ -1,12 +1,14 @@
 -- Each row has a test that computes, and a row whose test is true holds: for any row, not only those of the tables.
 use Prim.Native.Nat.{ℕ, zero, suc, ◌+◌, ◌*◌, ◌≤◌, ◌<◌}
-use mathlib.Core.Path.{◌≡◌, refl, sym, ap, ◌∙◌}
-use mathlib.Core.List.{List, [], ◌∷◌}
+use mathlib.Core.Path.{◌≡◌, refl, sym, ap, ap₂, ◌∙◌}
+use mathlib.Core.List.{List, [], ◌∷◌, ◌++◌}
 use mathlib.Core.Bool.{Bool, true, false, not, ◌&&◌, ◌||◌}
 use mathlib.Core.Logic.{◌⊎◌, inl, inr, ⊎_elim}
 use native.Mathlib.Omega.{arith}
 use borrow.Author.Tests.{lt-ltb}
 use lib.Dec.{T, leb, ltb, eqb, leb→le, ltb→lt, eqb→eq}
+use Rattle.std.specs.Prelude.{Option}
+use Rattle.planing.specs.declared.Cut.{Cut}
 use Rattle.numbers.proofs.Booleans.{IsTrue-true, IsTrue-false, IsTrue-left, IsTrue-right, not_both}
 use Rattle.panel.specs.declared.Panel.{Panel}
 use Rattle.numbers.proofs.LargestKept.{largest_greatest}
@@ -19,7 +21,10 @@ use Rattle.load.proofs.ExactFailure.{exact_failure}
 use Rattle.charring.specs.declared.Phase.{Phase}
 use Rattle.charring.specs.declared.Phase.TheVariants.{Untouched, UnderCladding, Fast, Settled}
 use Rattle.charring.specs.Phases.{phase_at}
-use Rattle.cases.specs.Cases.{Case, gives, bears, lasts, failure_time, in_phase, Holds, EveryRowHolds}
+use Rattle.layers.specs.Layers.{printed_ei}
+use Rattle.grades.specs.Grades.{rei_of}
+use Rattle.cases.specs.Cases.{Case, gives, bears, lasts, failure_time, in_phase, rated, planed, Rated, Holds, EveryRowHolds}
+use Rattle.cases.proofs.Planed.{planing_by, planing_by_grade, answer_test, answer_found}
 
 -- phases are told apart by a number each
 unfoldable pub phase_number : Phase → ℕ
@@ -59,13 +64,22 @@ last_in_one unit (fire ∷ []) m = last_part unit fire m
 last_in_one unit (fire ∷ next ∷ more) m =
     (last_part unit fire m && pass_in_every unit (next ∷ more) m) || (time_test fire m unit && last_in_one unit (next ∷ more) m)
 
+-- a panel is accepted, and R is m
+abbrev pub bears_test : Panel → ℕ → Bool
+bears_test p m = eqb (panel_refusal p) 0 && last_in_one 1 (fires p) m
+
+abbrev pub rated_test : Panel → ℕ → ℕ → ℕ → Bool
+rated_test p r ei grade = bears_test p r && (eqb (printed_ei p) ei && eqb (rei_of r ei).minutes grade)
+
 -- a failure time is tested by the depth reached then
 abbrev pub test : Case → Bool
 test (gives worked said) = eqb worked said
-test (bears p m) = eqb (panel_refusal p) 0 && last_in_one 1 (fires p) m
+test (bears p m) = bears_test p m
 test (lasts p minutes seconds) = eqb (panel_refusal p) 0 && (ltb seconds 60 && last_in_one 60 (fires p) (60 * minutes + seconds))
 test (failure_time p n q) = fails_right_after p n q
 test (in_phase p n q f) = eqb (phase_number (phase_at p n q)) (phase_number f)
+test (rated p r ei grade) = rated_test p r ei grade
+test (planed p r ei grade answer) = rated_test p r ei grade && answer_test grade p answer
 
 -- every row's test is true
 unfoldable pub agree : List Case → Bool
@@ -151,14 +165,35 @@ lasts_tested p minutes seconds t =
       (ap minutes_in e ∙ omega arith, ap seconds_over e ∙ omega arith),
     )
 
+rated_tested : (p : Panel) (r ei grade : ℕ) → T (rated_test p r ei grade) → Rated p r ei grade
+rated_tested p r ei grade t =
+    let load = bears_tested p r (IsTrue-left (bears_test p r) (eqb (printed_ei p) ei && eqb (rei_of r ei).minutes grade) t) in
+    let more = IsTrue-right (bears_test p r) (eqb (printed_ei p) ei && eqb (rei_of r ei).minutes grade) t in
+    let e = eqb→eq (printed_ei p) ei (IsTrue-left (eqb (printed_ei p) ei) (eqb (rei_of r ei).minutes grade) more) in
+    let g = eqb→eq (rei_of r ei).minutes grade (IsTrue-right (eqb (printed_ei p) ei) (eqb (rei_of r ei).minutes grade) more) in
+    (load.0, (load.1, (e, ap₂ (λ (a b : ℕ). (rei_of a b).minutes) load.1 e ∙ g)))
+
+planed_tested : (p : Panel) (r ei grade : ℕ) (answer : Option Cut) → T (test (planed p r ei grade answer)) → Holds (planed p r ei grade answer)
+planed_tested p r ei grade answer t =
+    let h = rated_tested p r ei grade (IsTrue-left (rated_test p r ei grade) (answer_test grade p answer) t) in
+    let e = answer_found grade p answer (IsTrue-right (rated_test p r ei grade) (answer_test grade p answer) t) in
+    (h, planing_by_grade p h.0 ∙ ap (λ (g : ℕ). planing_by g p) h.1.1.1 ∙ e)
+
 pub tested : (c : Case) → T (test c) → Holds c
 tested (gives worked said) t = eqb→eq worked said t
 tested (bears p m) t = bears_tested p m t
 tested (lasts p minutes seconds) t = lasts_tested p minutes seconds t
 tested (failure_time p n q) t = exact_failure p n q t
 tested (in_phase p n q f) t = same_number (phase_at p n q) f (eqb→eq (phase_number (phase_at p n q)) (phase_number f) t)
+tested (rated p r ei grade) t = rated_tested p r ei grade t
+tested (planed p r ei grade answer) t = planed_tested p r ei grade answer t
 
 pub all_tested : (cs : List Case) → T (agree cs) → EveryRowHolds cs
 unfolding agree
 all_tested [] t = tt
 all_tested (c ∷ cs) t = (tested c (IsTrue-left (test c) (agree cs) t), all_tested cs (IsTrue-right (test c) (agree cs) t))
+
+-- the rows of two tables, one after the other
+pub both : (cs ds : List Case) → EveryRowHolds cs → EveryRowHolds ds → EveryRowHolds (cs ++ ds)
+both [] ds a b = b
+both (c ∷ cs) ds a b = (a.0, both cs ds a.1 b)

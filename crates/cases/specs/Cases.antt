@@ -1,11 +1,15 @@
 -- Rows of worked cases: what a row says, and what it is for a table of rows to hold.
-use Rattle.std.specs.Prelude.{ℕ, ◌*◌, ◌≡◌, List, [], ◌∷◌, Bool, true, false}
+use Rattle.std.specs.Prelude.{ℕ, ◌*◌, ◌≡◌, List, [], ◌∷◌, Bool, true, false, Option}
 use Rattle.panel.specs.declared.Panel.{Panel}
 use Rattle.limits.specs.Refusals.{panel_refusal}
 use Rattle.charring.specs.declared.Phase.{Phase}
 use Rattle.charring.specs.Phases.{phase_at}
 use Rattle.load.specs.Failure.{TimePasses, IsFailureTime}
 use Rattle.load.specs.LoadMinute.{printed_load, printed_load_seconds, minutes_in, seconds_over}
+use Rattle.layers.specs.Layers.{printed_ei}
+use Rattle.ratings.specs.Answers.{rei_grade}
+use Rattle.planing.specs.declared.Cut.{Cut}
+use Rattle.planing.specs.Answers.{planing_of}
 
 pub data Case : Type 0 where
   -- a definition gives a number: what it gives, and what the document says
@@ -18,6 +22,13 @@ pub data Case : Type 0 where
   failure_time : Panel → ℕ → ℕ → Case
   -- in such a fire the panel is in a phase at n/q minutes
   in_phase : Panel → ℕ → ℕ → Phase → Case
+  -- a panel is accepted, the minutes R and EI that are printed for it are these, and its REI grade is that
+  rated : Panel → ℕ → ℕ → ℕ → Case
+  -- the same, and this is the least cut that lowers the REI grade, or none does
+  planed : Panel → ℕ → ℕ → ℕ → Option Cut → Case
+
+abbrev pub Rated : Panel → ℕ → ℕ → ℕ → Type 0
+Rated p r ei grade = (panel_refusal p ≡ 0) × ((printed_load p ≡ r) × ((printed_ei p ≡ ei) × ((rei_grade p).minutes ≡ grade)))
 
 -- what it is for a row to hold
 abbrev pub Holds : Case → Type 0
@@ -27,6 +38,8 @@ Holds (lasts p minutes seconds) =
     (panel_refusal p ≡ 0) × ((minutes_in (printed_load_seconds p) ≡ minutes) × (seconds_over (printed_load_seconds p) ≡ seconds))
 Holds (failure_time p n q) = IsFailureTime (TimePasses p) n q
 Holds (in_phase p n q f) = phase_at p n q ≡ f
+Holds (rated p r ei grade) = Rated p r ei grade
+Holds (planed p r ei grade answer) = Rated p r ei grade × (planing_of p ≡ answer)
 
 -- every row of a table holds
 abbrev pub EveryRowHolds : List Case → Type 0

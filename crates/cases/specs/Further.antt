@@ -1,14 +1,14 @@
 -- Cases worked through further, by hand: of document 01's "Charring" what its starred lines leave out, with the phases; and of document
--- 02 panels behind wood-based boards, walls with a fire on either face, failure times in minutes and seconds, and floors charred past a
--- bond line before their board fails.
-use Rattle.std.specs.Prelude.{ℕ, List, [], ◌∷◌}
+-- 02 panels behind wood-based boards, walls with a fire on either face, failure times in minutes and seconds, floors charred past a
+-- bond line before their board fails, and least cuts.
+use Rattle.std.specs.Prelude.{ℕ, List, [], ◌∷◌, ◌++◌, Some, None}
 use Rattle.panel.specs.declared.Cladding.{Cladding}
-use Rattle.panel.specs.declared.Cladding.TheVariants.{One, Two}
+use Rattle.panel.specs.declared.Cladding.TheVariants.{Unclad, One, Two}
 use Rattle.panel.specs.declared.Panel.{Panel}
 use Rattle.panel.specs.Boards.{charring_start}
 use Rattle.panel.specs.Faces.{turned, shown}
-use Rattle.panel.specs.Lamellae.{lamella}
-use Rattle.panel.specs.Worked.{panel_with, g, g_lamellae, board_of, board125}
+use Rattle.panel.specs.Lamellae.{Lamella, lamella}
+use Rattle.panel.specs.Worked.{panel_with, on_face, g, g_lamellae, board_of, board125}
 use Rattle.limits.specs.Refusals.{panel_refusal}
 use Rattle.charring.specs.declared.Phase.TheVariants.{Fast, Settled}
 use Rattle.panel.specs.declared.Material.TheVariants.{Osb, ParticleBoard}
@@ -18,7 +18,8 @@ use Rattle.charring.specs.Depths.{char_at, micrometres_at}
 use Rattle.basic_times.specs.declared.Role.TheVariants.{Protection, Insulation}
 use Rattle.basic_times.specs.Rules.{basic_time}
 use Rattle.layers.specs.Layers.{ei_sum, printed_ei}
-use Rattle.cases.specs.Cases.{Case, gives, bears, lasts, failure_time, in_phase, hundredths, hundred_thousandths}
+use Rattle.planing.specs.declared.Cut.{Cut}
+use Rattle.cases.specs.Cases.{Case, gives, bears, lasts, failure_time, in_phase, rated, planed, hundredths, hundred_thousandths}
 
 -- Panels
 
@@ -78,10 +79,46 @@ wall face =
 abbrev pub floor : ℕ → ℕ → Panel
 floor bond failure = panel_with bond 80 0 240 1000 failure (One (board125 70)) (lamella 1 200 ∷ lamella 0 400 ∷ lamella 1 400 ∷ [])
 
--- Rows
+-- G with M 3,000 behind type F 9.0 over a wide gap that fails at 5 min: t_ch 2.2 min
+abbrev pub soon_failed : Panel
+soon_failed = panel_with 0 65 1 240 3000 5000 (One (board_of 70 90)) g_lamellae
 
-unfoldable pub further : List Case
-further =
+-- G with M 3,000 behind two boards of type F, 9.0 over 25.0, that fail at 100 min
+abbrev pub thicker_inside : Panel
+thicker_inside = panel_with 0 65 0 240 3000 100000 (Two (board_of 70 90) (board_of 70 250)) g_lamellae
+
+-- a floor, 10 mm along, 10 across, 30 along, with falling bond behind type F 12.5 that fails at 41 min, β 80; f 240, M 100
+abbrev pub thin_floor : Panel
+thin_floor = panel_with 1 80 0 240 100 41000 (One (board125 70)) (lamella 1 100 ∷ lamella 0 100 ∷ lamella 1 300 ∷ [])
+
+-- bare lamellae in record version 2, with the fire on a face; f 240, bond holds
+abbrev pub bare : ℕ → ℕ → ℕ → List Lamella → Panel
+bare face rate moment ls = on_face face (panel_with 0 rate 0 240 moment 0 Unclad ls)
+
+-- 40 and 10 mm along, β 65, no moment: 65 minutes EI from the first face, 55 from the last
+abbrev pub uneven : ℕ → Panel
+uneven face = bare face 65 0 (lamella 1 400 ∷ lamella 1 100 ∷ [])
+
+-- 20.1, 10 and 10 mm along, β 50, no moment: 36 minutes EI from the first face, 30 from the last
+abbrev pub thinning : ℕ → Panel
+thinning face = bare face 50 0 (lamella 1 201 ∷ lamella 1 100 ∷ lamella 1 100 ∷ [])
+
+-- two of 10.1 mm along, β 65: with a tenth off either they carry no more than M 1,858
+abbrev pub twins : ℕ → Panel
+twins face = bare face 65 1859 (lamella 1 101 ∷ lamella 1 101 ∷ [])
+
+-- one of 10.1 mm, β 65: 10.0 mm carry M 460 and no more
+abbrev pub single : ℕ → Panel
+single moment = bare 0 65 moment (lamella 1 101 ∷ [])
+
+-- so many tenths of mm off the lamella at a place
+abbrev pub off : ℕ → ℕ → Cut
+off tenths place = record { place = place; tenths = tenths }
+
+-- Rows, in six parts, since antt computes no more than so many steps at once
+
+unfoldable pub charring_rows : List Case
+charring_rows =
     -- all four are accepted
     gives (panel_refusal five) 0
     ∷ gives (panel_refusal two_a) 0
@@ -132,8 +169,12 @@ further =
     ∷ in_phase wide_a 3 1 (Fast 286000)
     ∷ gives (char_at wide_a 44 10) (hundredths 286 10)
     ∷ gives (char_at wide_a 10 1) (hundredths 650 1)
+    ∷ []
+
+unfoldable pub wood_board_rows : List Case
+wood_board_rows =
     -- wood-based boards at 20.0 mm have the bases of their rules, at 40.0 mm 2^1.1 and 2^1.4 times as much
-    ∷ gives (basic_time Protection Osb 200) 2300
+    gives (basic_time Protection Osb 200) 2300
     ∷ gives (basic_time Insulation Osb 200) 1600
     ∷ gives (basic_time Protection ParticleBoard 200) 3300
     ∷ gives (basic_time Insulation ParticleBoard 200) 2200
@@ -167,8 +208,12 @@ further =
     ∷ bears (panel_of behind_p) 128
     ∷ failure_time (panel_of behind_p) 418943 3250
     ∷ gives (ei_sum (panel_of behind_p)) 12596
+    ∷ []
+
+unfoldable pub fire_rows : List Case
+fire_rows =
     -- the wall is accepted with each face
-    ∷ gives (record_refusal (wall 0)) 0
+    gives (record_refusal (wall 0)) 0
     ∷ gives (record_refusal (wall 1)) 0
     ∷ gives (record_refusal (wall 2)) 0
     ∷ gives (record_refusal (wall 3)) 16
@@ -206,3 +251,53 @@ further =
     ∷ bears g_lasting 360
     ∷ lasts g_lasting 360 0
     ∷ []
+
+unfoldable pub first_run_rows : List Case
+first_run_rows =
+    -- t_ch 2.2 min, before t_f: the first run ends at 25 mm, and not at 2·t_f, when 8.02 mm have charred. 1.52516 mm at t_f, by
+    -- 0.65·(1 − 0.018·9) mm/min; 25 mm after 23.47484/1.3 min more; it fails as 74.4 mm no longer carry, at 67.4 mm of char
+    gives (char_at soon_failed 5 1) (hundred_thousandths 152516 1)
+    ∷ in_phase soon_failed 5 1 (Fast 2500000)
+    ∷ gives (char_at soon_failed 749371 32500) (hundredths 2500 32500)
+    ∷ in_phase soon_failed 749371 32500 Settled
+    ∷ bears soon_failed 88
+    ∷ failure_time soon_failed 2869371 32500
+    -- k2 goes by the inner of two boards, though it is the thicker: 0.55·0.65 mm/min from 67.2 min on, so 8.151 mm at 90 min, 11.726 mm at
+    -- t_f; 25 mm after 13.274/1.3 min more
+    ∷ gives (charring_start 0 thicker_inside.cladding) 67200
+    ∷ gives (char_at thicker_inside 90 1) (hundred_thousandths 815100 1)
+    ∷ gives (char_at thicker_inside 100 1) (hundred_thousandths 1172600 1)
+    ∷ bears thicker_inside 175
+    ∷ lasts thicker_inside 175 26
+    -- 12.4 mm at t_f, past the line at 10 mm: the next line, at 20 mm, is nearer than 10 + 25 mm and ends the run, after 7.6/1.6 min
+    ∷ gives (char_at thin_floor 41 1) (hundredths 1240 1)
+    ∷ in_phase thin_floor 41 1 (Fast 2000000)
+    ∷ gives (char_at thin_floor 183 4) (hundredths 2000 4)
+    ∷ in_phase thin_floor 183 4 (Fast 4500000)
+    ∷ bears thin_floor 57
+    ∷ []
+
+unfoldable pub rating_rows : List Case
+rating_rows =
+    -- REI takes the EI of the fire that is meant, and of each alone the lesser
+    rated (uneven 0) 61 65 60
+    ∷ rated (uneven 1) 61 55 45
+    ∷ rated (uneven 2) 61 55 45
+    ∷ []
+
+unfoldable pub cut_rows : List Case
+cut_rows =
+    -- a single lamella has one allowed cut
+    planed (single 460) 0 7 0 None
+    ∷ planed (single 461) 0 7 0 (Some (off 1 1))
+    -- as much at two places: the one nearest the fire, of each alone nearest the first face
+    ∷ planed (twins 0) 0 16 0 (Some (off 1 1))
+    ∷ planed (twins 1) 0 16 0 (Some (off 1 2))
+    ∷ planed (twins 2) 0 16 0 (Some (off 1 1))
+    -- EI from the last face falls below 30 minutes
+    ∷ planed (thinning 1) 60 30 30 (Some (off 2 1))
+    ∷ planed (thinning 2) 60 30 30 (Some (off 2 1))
+    ∷ []
+
+abbrev pub further : List Case
+further = charring_rows ++ (wood_board_rows ++ (fire_rows ++ (first_run_rows ++ (rating_rows ++ cut_rows))))

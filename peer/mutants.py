@@ -1,0 +1,285 @@
+"""mutants.py [--list] [--jobs N] [NAME..]
+
+Holds the stored cases to peer.py: each of its sentences is made wrong, one at a time, and some stored case of a test program must then be
+answered otherwise. A mutant that every case answers as before is a missing case, or says the same in other words: those that do are named
+in SAME below, each with its reason. NAME: a function of peer.py, whose mutants alone are tried. Takes some minutes; ends with status 1
+where a mutant lives, and prints it.
+
+The cases are those of make_cases.py, worked out once by peer.py as it is. A mutant is a copy of peer.py with another operator, another
+number, the other of two, or a condition left out; and the misreadings of MISREADINGS, which somebody could write down in earnest.
+"""
+import argparse
+import ast
+import copy
+import multiprocessing
+import os
+import signal
+import sys
+import types
+
+HERE = os.path.dirname(os.path.abspath(__file__))
+sys.setrecursionlimit(10_000)
+
+with open(os.path.join(HERE, "peer.py")) as file:
+    SOURCE = file.read()
+with open(os.path.join(HERE, "programs.py")) as file:
+    PROGRAMS = file.read()
+
+LONGEST = 60  # seconds that a mutant may take for one case
+
+# Functions that no stored case goes by: they hold the others to their definition (check.py), or make tables.
+APART = {"time_passes_by_definition", "scanned_time", "check_closeness", "check_load_minute", "exact_failure", "entries", "effective_depth"}
+
+# (function, the line of the mutant): why it says the same
+SAME = {}
+
+# (what somebody could read, the text of peer.py, what stands there instead)
+MISREADINGS = [
+    ("EI's grade and REI of a wall by its first face alone",
+     "def ei_grade(panel):\n    return graded(ei_minute, panel)", "def ei_grade(panel):\n    return graded(lambda p: ei_minute(fires(p)[0]), panel)"),
+    ("REI of a wall by the EI of its first face alone",
+     "return graded(lambda panel: min(load_minute(panel), ei_minute(panel)), panel)",
+     "return graded(lambda panel: min(load_minute(panel), ei_minute(fires(panel)[0])), panel)"),
+    ("the card's REI by the EI of its first face alone", 'f"REI {rei(r, ei)}"', 'f"REI {rei(r, ei_minute(fires(panel)[0]))}"'),
+    ("the card's EI grade by the EI of its first face alone", 'f"EI {ei} {grade(ei)}"', 'f"EI {ei} {grade(ei_minute(fires(panel)[0]))}"'),
+    ("planing keeps the EI of the first face alone", "ei_minute(panel) >= least and time_passes(panel, least)",
+     "ei_minute(fires(panel)[0]) >= least and time_passes(panel, least)"),
+    ("with t_ch < t_f the first run ends at 2·t_f too", "    if t_f(panel) > t_ch(panel):\n        return FAST_RUN\n",
+     "    if t_f(panel) > t_ch(panel):\n        return min(FAST_RUN, rate * failure)\n"),
+    ("no more than 15.0 mm is planed", "- LEAST_KEPT\n    for tenths", "- LEAST_KEPT\n    deepest = min(150, deepest)\n    for tenths"),
+    ("k2 by the thinner board", "panel.boards[-1].thickness, 10_000)", "min(b.thickness for b in panel.boards), 10_000)"),
+    ("k2 by the thicker board", "panel.boards[-1].thickness, 10_000)", "max(b.thickness for b in panel.boards), 10_000)"),
+    ("k2 by the outer board", "panel.boards[-1].thickness, 10_000)", "panel.boards[0].thickness, 10_000)"),
+    ("a line passed before the boards failed ends the run after 25 mm, whatever line is next",
+     "return min([max(passed) + FAST_RUN] + lines[len(passed):])", "return max(passed) + FAST_RUN"),
+    ("the first line passed tells the end", "return min([max(passed) + FAST_RUN] + lines[len(passed):])",
+     "return min([min(passed) + FAST_RUN] + lines[len(passed):])"),
+    ("a line reached as the boards fail is passed", "passed = [line for line in lines if line < depth]",
+     "passed = [line for line in lines if line <= depth]"),
+    ("D is a letter too", 'TYPES = b"AFHOP"', 'TYPES = b"ADFHOP"'),
+    ("DF is a letter too", 'TYPES = b"AFHOP"', 'TYPES = bytes([68]) + b"AFHOP"'),
+    ("t_ch of two boards A by the factor of F", "inner = 224 if is_type_f(boards) else 140", "inner = 224"),
+    ("t_ch of two boards F by the factor of A", "inner = 224 if is_type_f(boards) else 140", "inner = 140"),
+    ("the gap counts behind OSB", "    if boards[0].kind in WOOD_TYPES:\n        return", "    if boards[0].kind in WOOD_TYPES and panel.gap == 0:\n        return"),
+    ("the zero-strength layer is full at 20 min behind boards too", "max(20_000, t_ch(panel))))", "20_000)))"),
+    ("the zero-strength layer by t_f", "max(20_000, t_ch(panel))))", "max(20_000, t_f(panel))))"),
+    ("the effective depth goes past the back face", "return min(weakened(panel, minute), Fraction(thickness_of(panel.lamellae), 10))",
+     "return weakened(panel, minute)"),
+    ("EI's sum by the first face", "return min(sum(layer_times(fire)) for fire in fires(panel))", "return sum(layer_times(fires(panel)[0]))"),
+    ("R by the first face", "return min(map(fire_minute, fires(panel)))", "return fire_minute(fires(panel)[0])"),
+    ("RS by the first face", "return min(map(fire_time, fires(panel)))", "return fire_time(fires(panel)[0])"),
+    ("planing looks at load alone", "refusal == 0 and ei_minute(panel) >= least and time_passes(panel, least)",
+     "refusal == 0 and time_passes(panel, least)"),
+    ("planing looks at EI alone", "refusal == 0 and ei_minute(panel) >= least and time_passes(panel, least)",
+     "refusal == 0 and ei_minute(panel) >= least"),
+    ("planing does not count refusal 13", "return refusal == 0 and", "return refusal == 13 or"),
+    ("of equal cuts the one nearest the first face", "return places[::-1] if panel.face == 1 else places", "return places"),
+    ("of equal cuts the one nearest the last face for face 2", "return places[::-1] if panel.face == 1 else places",
+     "return places[::-1] if panel.face >= 1 else places"),
+    ("the first lamella's direction counts in EI", "layers += [(entry(\"wood_protection\", thickness), 100) for thickness in thicknesses[:-1]]",
+     "layers += [(entry(\"wood_protection\", thickness), 100) for thickness in thicknesses[:-1]][panel.lamellae[0][0] - 1:]"),
+    ("boards stand on the far face too", "return layers + [(entry(\"wood_insulation\", thicknesses[-1]), 100)]",
+     "return layers + [(entry(\"wood_insulation\", thicknesses[-1]), 100)] + [(entry(MATERIALS[b.kind] + '_insulation', b.thickness), b.joint) for b in panel.boards]"),
+    ("same build by the fire's lamellae", "return a._replace(version=0, strength=0, moment=0) == b._replace(version=0, strength=0, moment=0)",
+     "return a._replace(version=0, strength=0, moment=0, face=0, lamellae=from_fire(a)) == b._replace(version=0, strength=0, moment=0, face=0, lamellae=from_fire(b))"),
+    ("turning swaps the first and the last lamella alone", "return panel.lamellae[::-1] if panel.face == LAST_FACE else panel.lamellae",
+     "return panel.lamellae[-1:] + panel.lamellae[1:-1] + panel.lamellae[:1] if panel.face == LAST_FACE and len(panel.lamellae) > 1 else panel.lamellae"),
+]
+
+ORDERS = {ast.Lt: [ast.LtE], ast.LtE: [ast.Lt], ast.Gt: [ast.GtE], ast.GtE: [ast.Gt], ast.Eq: [ast.NotEq], ast.NotEq: [ast.Eq],
+          ast.In: [ast.NotIn], ast.NotIn: [ast.In]}
+SUMS = {ast.Add: [ast.Sub], ast.Sub: [ast.Add], ast.Mult: [ast.Add], ast.Div: [ast.Mult], ast.FloorDiv: [ast.Mult], ast.Pow: [ast.Mult]}
+TWINS = {"min": "max", "max": "min", "floor": "ceil", "ceil": "floor", "any": "all", "all": "any", "FIRST_FACE": "LAST_FACE",
+         "LAST_FACE": "FIRST_FACE", "EACH_ALONE": "LAST_FACE", "t_f": "t_ch", "t_ch": "t_f", "load_minute": "ei_minute"}
+
+
+def changed(node):
+    """The other nodes that may stand in the place of one."""
+    if isinstance(node, ast.Compare):
+        for i, order in enumerate(node.ops):
+            for other in ORDERS.get(type(order), []):
+                new = copy.deepcopy(node)
+                new.ops[i] = other()
+                yield new
+    elif isinstance(node, ast.BinOp):
+        for other in SUMS.get(type(node.op), []):
+            yield ast.BinOp(node.left, other(), node.right)
+    elif isinstance(node, ast.BoolOp):
+        yield ast.BoolOp(ast.And() if isinstance(node.op, ast.Or) else ast.Or(), node.values)
+        for value in node.values:
+            yield value
+    elif isinstance(node, ast.UnaryOp) and isinstance(node.op, ast.Not):
+        yield node.operand
+    elif isinstance(node, ast.Constant) and type(node.value) is int:
+        yield ast.Constant(node.value + 1)
+        yield ast.Constant(node.value - 1)
+    elif isinstance(node, ast.IfExp):
+        yield node.body
+        yield node.orelse
+    elif isinstance(node, ast.Name) and node.id in TWINS:
+        yield ast.Name(TWINS[node.id], node.ctx)
+    elif isinstance(node, ast.If) and not node.orelse:
+        yield ast.Pass()
+    elif isinstance(node, ast.Slice) and node.step is not None:
+        yield ast.Slice(None, None, None)
+
+
+class Put(ast.NodeTransformer):
+    """Puts another node in the place of the one with a number."""
+
+    def __init__(self, place, new):
+        self.place, self.new, self.at = place, new, -1
+
+    def visit(self, node):
+        self.at += 1
+        if self.at == self.place:
+            return self.new
+        return self.generic_visit(node)
+
+
+class Nodes(ast.NodeVisitor):
+    """The nodes in the order in which `Put` counts them."""
+
+    def __init__(self):
+        self.found = []
+
+    def visit(self, node):
+        self.found.append(node)
+        self.generic_visit(node)
+
+
+def with_lines(tree):
+    return ast.unparse(ast.fix_missing_locations(tree))
+
+
+def mutants_of(part):
+    """(line after, source after) of a definition of peer.py."""
+    nodes = Nodes()
+    nodes.visit(part)
+    before = with_lines(part).split("\n")
+    for place, node in enumerate(nodes.found):
+        for new in changed(node):
+            after = with_lines(Put(place, new).visit(copy.deepcopy(part)))
+            line = next((line for line, old in zip(after.split("\n"), before + [""] * 99) if line != old), "")
+            if line:
+                yield line.strip(), after
+
+
+def without_doc(part):
+    if isinstance(part, ast.FunctionDef) and ast.get_docstring(part):
+        part.body = part.body[1:]
+    return part
+
+
+def name_of(part):
+    if isinstance(part, ast.FunctionDef):
+        return part.name
+    if isinstance(part, ast.Assign):
+        return ast.unparse(part.targets[0])
+    return None
+
+
+def mutants(names):
+    """(function, what stands there, source of peer.py)"""
+    tree = ast.parse(SOURCE)
+    parts = [without_doc(part) for part in tree.body]
+    texts = [with_lines(part) for part in parts]
+    for i, part in enumerate(parts):
+        name = name_of(part)
+        if name is None or name in APART or name == "BLANK" or names and name not in names:
+            continue
+        for line, after in mutants_of(part):
+            yield name, line, "\n".join(texts[:i] + [after] + texts[i + 1:])
+    for text, old, new in MISREADINGS:
+        if names:
+            break
+        if SOURCE.count(old) != 1:
+            sys.exit(f"MISREADINGS: not once in peer.py: {old}")
+        yield "misreading", text, SOURCE.replace(old, new)
+
+
+def calls_of(source):
+    """CALLS of programs.py and card_text, over that source of peer.py."""
+    peer = types.ModuleType("peer")
+    programs = types.ModuleType("programs")
+    kept = sys.modules.get("peer")
+    sys.modules["peer"] = peer
+    try:
+        exec(compile(source, "peer", "exec"), peer.__dict__)
+        exec(compile(PROGRAMS, "programs", "exec"), programs.__dict__)
+    finally:
+        sys.modules["peer"] = kept
+    return programs.answered
+
+
+def too_long(_signal, _frame):
+    raise TimeoutError
+
+
+CASES = []
+
+
+def seen_by(mutant):
+    """The first case that is answered otherwise, None where there is none."""
+    name, line, source = mutant
+    signal.signal(signal.SIGALRM, too_long)
+    try:
+        answered = calls_of(source)
+    except Exception:
+        return mutant, "cannot be run"
+    for call, case, answer in CASES:
+        signal.alarm(LONGEST)
+        try:
+            said = answered(call, case)
+        except Exception as error:
+            return mutant, f"{type(error).__name__} at {call} .. {case[-1]}"
+        finally:
+            signal.alarm(0)
+        if said != answer:
+            return mutant, f"{call} .. {case[-1]}"
+    return mutant, None
+
+
+def stored_cases():
+    """(call, case, answer), the cheapest calls first."""
+    import time
+    import make_cases
+    import programs
+    found = []
+    for call, cases in make_cases.CASES.items():
+        for case in cases():
+            begun = time.time()
+            answer = programs.answered(call, case)
+            found.append((time.time() - begun, call, case, answer))
+    found.sort(key=lambda each: each[0])
+    return [each[1:] for each in found]
+
+
+def main():
+    words = argparse.ArgumentParser(description=__doc__, formatter_class=argparse.RawDescriptionHelpFormatter)
+    words.add_argument("names", metavar="NAME", nargs="*")
+    words.add_argument("--jobs", type=int, default=os.cpu_count())
+    words.add_argument("--list", action="store_true", help="print what each mutant was seen by")
+    given = words.parse_args()
+    CASES.extend(stored_cases())
+    tried = list(mutants(given.names))
+    living, same = [], set()
+    with multiprocessing.get_context("fork").Pool(given.jobs) as pool:
+        for (name, line, _), seen in pool.imap_unordered(seen_by, tried, chunksize=1):
+            if given.list:
+                print(f"{name}: {line}: {seen}", flush=True)
+            if seen is None and (name, line) in SAME:
+                same.add((name, line))
+            elif seen is None:
+                living.append((name, line))
+                print(f"lives: {name}: {line}", flush=True)
+    if not given.names:
+        for name, line in set(SAME) - same:
+            print(f"SAME names a mutant that is seen or not there: {name}: {line}")
+            living.append((name, line))
+    print(f"{len(tried)} mutants, {len(tried) - len(living) - len(same)} seen, {len(same)} that say the same, {len(living)} alive")
+    sys.exit(1 if living else 0)
+
+
+if __name__ == "__main__":
+    main()
