@@ -6,6 +6,10 @@
 
 int main(void)
 {
+    if (yurbantse_version() != YURBANTSE_VERSION) {
+        fputs("card: the library is not the header's\n", stderr);
+        return 1;
+    }
     uint8_t bytes[64]; /* the longest record has 54 bytes: of a longer input the first 64 are refused for their length */
     size_t length = fread(bytes, 1, sizeof bytes, stdin);
     if (ferror(stdin)) { /* fread answers less at the end of the input and where a read fails */

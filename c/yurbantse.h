@@ -10,7 +10,10 @@
    Any bytes may be given, and any space lent; the functions always return. The caller must see to what C cannot say:
    - a pointer points to as many bytes as are named, and is not null, even where that is none;
    - `out` shares no byte with `bytes`, and nothing else writes either before the call returns.
-   The functions keep nothing, allocate nothing and call only memcpy and memset. Two threads may call them at once on different spaces. */
+   The functions keep nothing, allocate nothing and call only memcpy and memset. Two threads may call them at once on different spaces.
+
+   Stack, from the call on, without what memcpy and memset use: a card takes at most STACKCARD bytes, the least cut STACKPLANING, a refusal
+   STACKREFUSAL (read off the machine code and tried on a painted stack, by bench/stack.py). Constants: TABLEBYTES bytes, read only. */
 #ifndef YURBANTSE_H
 #define YURBANTSE_H
 
@@ -20,6 +23,13 @@
 #ifdef __cplusplus
 extern "C" {
 #endif
+
+/* The text that this header was written for: document 01 with the requests of document 02 from the first to this one. Hold the library to it
+   once: yurbantse_version() == YURBANTSE_VERSION. */
+#define YURBANTSE_VERSION 7
+
+/* The last request that is in the library. */
+uint32_t yurbantse_version(void);
 
 /* No card is longer. */
 #define YURBANTSE_CARD_MOST 249

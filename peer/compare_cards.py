@@ -5,12 +5,14 @@ compares with peer.py: the card, the number answered, and every byte of the lent
 in turn within the limits, failing at any minute, at once or after a recovery, at a limit, damaged, and with one byte changed, each place
 of the record in its turn; the first are all lengths from none to 128 bytes. The space is the longest card's, the very card's, or one byte
 less. Then the least cut of C panels of thin lamellae, and of as many of these records that are refused.
+Before, that the library and its header say which requests are in, as peer.py does.
 Ends with status 1 at a disagreement, and prints the record; and where something is missing, and says what.
 """
 import ctypes
 import multiprocessing
 import os
 import random
+import re
 import sys
 from collections import Counter
 
@@ -100,6 +102,12 @@ def cut_differs(library, seed, number):
     return None
 
 
+def version_of(header):
+    """The number that the header says."""
+    with open(header) as file:
+        return int(re.search(r"#define YURBANTSE_VERSION (\d+)", file.read())[1])
+
+
 def start(path, seed):
     global library, seeded
     library, seeded = ctypes.CDLL(path), seed
@@ -127,6 +135,9 @@ def main():
     os.makedirs(folder, exist_ok=True)
     path = os.path.abspath(os.path.join(folder, "libcard_c.so"))
     needs.run(["cc", "-shared", "-o", path, "-Wl,--whole-archive", archive, "-Wl,--no-whole-archive"])
+    versions = ctypes.CDLL(path).yurbantse_version(), version_of(os.path.join(given.repository, "c/yurbantse.h")), peer.LAST_REQUEST
+    if len(set(versions)) != 1:
+        sys.exit(f"library, header and peer have requests up to {versions}")
     refusals = Counter()
     with multiprocessing.Pool(given.jobs, start, (path, given.seed)) as pool:
         for number, (refusal, wrong) in enumerate(pool.imap(compared, range(given.records), 50)):

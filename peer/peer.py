@@ -9,6 +9,8 @@ from functools import cache
 from math import ceil, floor
 from typing import NamedTuple
 
+LAST_REQUEST = 7  # of document 02
+
 # ---------------------------------------------------------------- The panel record
 
 ALONG = 1
