@@ -115,6 +115,9 @@ class Depths:
                 continue
             depth_at[at] = depth
             text = lines[at]
+            below = re.search(r"-(0x[0-9a-f]+)\(%rsp", text)  # a function that calls none may use the 128 bytes below the stack pointer
+            if below:
+                most = max(most, depth + int(below[1], 16))
             if text.startswith("call"):
                 most = max(most, depth + RETURN + self.called(text))
             jump = re.match(r"j\w+ +([0-9a-f]+) <", text)

@@ -28,7 +28,7 @@ with open(os.path.join(HERE, "programs.py")) as file:
 LONGEST = 60  # seconds that a mutant may take for one case
 
 # Functions that no stored case goes by: they hold the others to their definition (check.py), or make tables.
-APART = {"time_passes_by_definition", "scanned_time", "check_closeness", "check_load_minute", "exact_failure", "entries", "effective_depth"}
+APART = {"G", "LAST_REQUEST", "scanned_time", "check_closeness", "check_load_minute", "exact_failure", "entries"}
 
 # (function, the line of the mutant): why it says the same
 SAME = {}
