@@ -27,11 +27,43 @@ with open(os.path.join(HERE, "programs.py")) as file:
 
 LONGEST = 60  # seconds that a mutant may take for one case
 
-# Functions that no stored case goes by: they hold the others to their definition (check.py), or make tables.
-APART = {"G", "LAST_REQUEST", "scanned_time", "check_closeness", "check_load_minute", "exact_failure", "entries"}
+# What is no sentence of the paper: how the failure time is found, which check.py holds to what it means, by some of these; tables; and what
+# cases are made of.
+APART = {"G", "LAST_REQUEST", "last_time_at", "scanned_time", "check_closeness", "check_load_minute", "exact_failure", "entries"}
 
-# (function, the line of the mutant): why it says the same
-SAME = {}
+# (function, the line and what stands there in the mutant): why it says the same
+NO_THIRD = "the cladding of a panel is none, one or two boards; of a record more are refused as it is read"
+ALIKE = "type F stands alone or with F, O and P alone: either board tells"
+AT_FACE = "at a depth above the first face every lamella is whole, as at depth 0"
+SAME = {
+    ("panel_refusal", "if len(panel.boards) > 2: -> pass"): NO_THIRD,
+    ("panel_refusal", "if len(panel.boards) > 2: -> if len(panel.boards) > 3:"): NO_THIRD,
+    ("panel_refusal", "return 6 -> return 7"): NO_THIRD,
+    ("panel_refusal", "return 6 -> return 5"): NO_THIRD,
+    ("panel_refusal", "if not depth_passes(panel, 0): -> if not depth_passes(panel, -1):"): AT_FACE,
+    ("decode", "if not depth_passes(panel, 0): -> if not depth_passes(panel, -1):"): AT_FACE,
+    ("t_ch", "if boards[0].kind in WOOD_TYPES: -> if boards[-1].kind in WOOD_TYPES:"): ALIKE,
+    ("t_ch", "return floor(Fraction(boards[0].thickness, 10) / Fraction(90, 100) * 1000) -> "
+             "return floor(Fraction(boards[-1].thickness, 10) / Fraction(90, 100) * 1000)"): ALIKE,
+    ("t_ch", "return 280 * boards[0].thickness - less -> return 280 * boards[-1].thickness - less"): "there is one board",
+    ("is_type_f", "return len(boards) > 0 and boards[0].kind == TYPE_F -> return len(boards) > 0 and boards[-1].kind == TYPE_F"): ALIKE,
+    ("first_end", "if not panel.boards: -> pass"): "unclad t_ch and t_f are 0, and so is 2·t_f",
+    ("first_end", "passed = [line for line in lines if line < depth] -> passed = [line for line in lines if line <= depth]"):
+        "the run of a line reached at t_f starts there anyway, with the same end",
+    ("stages", "passed = [Stage(Fraction(0), Fraction(0), Fraction(0), 'untouched')] -> "
+               "passed = [Stage(Fraction(-1), Fraction(0), Fraction(0), 'untouched')]"): "no time is below 0",
+    ("stages", "if depth >= back: -> if depth > back:"): "charred through at t_f itself: it is settled from then on, either way",
+    ("section", "return (n, p, q, lo, hi, n > 0 and carried) -> return (n, p, q, lo, hi, n > 1 and carried)"): "what counts is 3.0 mm and more",
+    ("first_failing", "return next((depth for depth in range(thickness_of(panel.lamellae) + 1) if not depth_passes(panel, depth))) -> "
+                      "return next((depth for depth in range(thickness_of(panel.lamellae) - 1) if not depth_passes(panel, depth)))"):
+        "with less than 3.0 mm left nothing counts",
+    ("first_failing", "return next((depth for depth in range(thickness_of(panel.lamellae) + 1) if not depth_passes(panel, depth))) -> "
+                      "return next((depth for depth in range(thickness_of(panel.lamellae) + 2) if not depth_passes(panel, depth)))"):
+        "with less than 3.0 mm left nothing counts",
+    ("first_failing", "return next((depth for depth in range(thickness_of(panel.lamellae) + 1) if not depth_passes(panel, depth))) -> "
+                      "return next((depth for depth in range(thickness_of(panel.lamellae) + 0) if not depth_passes(panel, depth)))"):
+        "with less than 3.0 mm left nothing counts",
+}
 
 # (what somebody could read, the text of peer.py, what stands there instead)
 MISREADINGS = [
@@ -54,8 +86,6 @@ MISREADINGS = [
      "return min([max(passed) + FAST_RUN] + lines[len(passed):])", "return max(passed) + FAST_RUN"),
     ("the first line passed tells the end", "return min([max(passed) + FAST_RUN] + lines[len(passed):])",
      "return min([min(passed) + FAST_RUN] + lines[len(passed):])"),
-    ("a line reached as the boards fail is passed", "passed = [line for line in lines if line < depth]",
-     "passed = [line for line in lines if line <= depth]"),
     ("D is a letter too", 'TYPES = b"AFHOP"', 'TYPES = b"ADFHOP"'),
     ("DF is a letter too", 'TYPES = b"AFHOP"', 'TYPES = bytes([68]) + b"AFHOP"'),
     ("t_ch of two boards A by the factor of F", "inner = 224 if is_type_f(boards) else 140", "inner = 224"),
@@ -160,9 +190,9 @@ def mutants_of(part):
     for place, node in enumerate(nodes.found):
         for new in changed(node):
             after = with_lines(Put(place, new).visit(copy.deepcopy(part)))
-            line = next((line for line, old in zip(after.split("\n"), before + [""] * 99) if line != old), "")
-            if line:
-                yield line.strip(), after
+            lines = [(old.strip(), line.strip()) for line, old in zip(after.split("\n"), before + [""] * 99) if line != old]
+            if lines:
+                yield " -> ".join(lines[0]), after
 
 
 def without_doc(part):
