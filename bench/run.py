@@ -74,10 +74,13 @@ def each_face(moment, rate, strength, boards, lamellae):
     return Panel(2, peer.EACH_ALONE, 1, rate, 1, strength, moment, 0, boards, tuple((1 if h > 0 else 0, abs(h)) for h in lamellae))
 
 
+THICKEST = (peer.Board(ord("A"), 250, 100),) * 2
+
 # no cut of them lowers the grade
 LONG_SEARCHES = {
     "nine equal, without load": each_face(0, 65, 240, (), (444,) * 9),
-    "the longest found": each_face(6_950, 95, 100, (peer.Board(ord("A"), 250, 100),) * 2, (537, 569, -552, -238, -465, -554, 274, 386, 425)),
+    "the longest found with the older kit": each_face(6_950, 95, 100, THICKEST, (537, 569, -552, -238, -465, -554, 274, 386, 425)),
+    "the longest found": each_face(6_880, 95, 100, THICKEST, (537, 563, -515, -158, -540, -580, 254, 386, 467)),
 }
 
 

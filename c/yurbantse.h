@@ -63,8 +63,8 @@ int32_t yurbantse_refusal(uint8_t n, uint8_t *out, size_t out_length);
      0 where no cut of any lamella lowers the grade;
      minus the number of the refusal, as above but never -14.
 
-   It tries every cut from the least on. Of random panels half took under 0.8 million instructions; the most that was counted, for nine thick
-   lamellae with a fire on each face, is 65 million (docs/SPEED.md). */
+   It tries every cut from the least on. Of random panels half took under 0.5 million instructions; the most that was counted, for nine thick
+   lamellae with a fire on each face, is 61 million (docs/SPEED.md). */
 int32_t yurbantse_planing(const uint8_t *bytes, size_t bytes_length);
 
 #ifdef __cplusplus

@@ -1,13 +1,17 @@
 -- Runs of layers: one more at the end, and the last by insulation.
-use Prim.Native.Nat.{ℕ, suc, ◌+◌, ◌≤◌}
+use Prim.Native.Nat.{ℕ, suc, ◌+◌, ◌<◌, ◌≤◌, min}
 use mathlib.Core.Path.{◌≡◌, refl, sym, ap, ◌∙◌}
 use mathlib.Core.List.{List, [], ◌∷◌, ◌++◌, map, map-append, append_assoc}
 use native.Mathlib.Numerals.{add-one}
+use native.Mathlib.Omega.{arith}
+use native.Mathlib.Decide.{dec_lt}
 use lib.ListN.{get_or, length, take}
 use Rattle.std.proofs.lemmas.List.{get_or-take, length-take-le}
 use Rattle.numbers.proofs.FirstValues.{firsts_agree}
 use Rattle.panel.specs.Lamellae.{lamella, lamellae_of}
+use Rattle.basic_times.specs.declared.Role.{Role}
 use Rattle.basic_times.specs.declared.Role.TheVariants.{Protection, Insulation}
+use Rattle.layers.specs.Kept.{SameUpTo}
 use Rattle.layers.specs.Layers.{Layer, lamella_layer, with_layer, protected_after, sum_after}
 
 protected_append : (s : ℕ) (xs ys : List Layer) → protected_after s (xs ++ ys) ≡ protected_after (protected_after s xs) ys
@@ -61,3 +65,22 @@ sum_of bs gs ts i =
     ∙ ap (sum_after 0) (sym (append_assoc bs ws (x ∷ [])))
     ∙ sum_last 0 (bs ++ ws) x
     ∙ ap (λ (k : ℕ). with_layer Insulation k x) (protected_append 0 bs ws)
+
+-- a sum only grows, so that layers behind one that is enough do not matter
+grows : (role : Role) (s : ℕ) (x : Layer) → s ≤ with_layer role s x
+unfolding with_layer
+grows role s x = omega arith
+
+pub more_up_to :
+    (role : Role) (enough a b : ℕ) (x : Layer) → SameUpTo enough a b → SameUpTo enough (with_layer role a x) (with_layer role b x)
+more_up_to role enough a b x same = go (dec_lt a enough)
+  where
+    go : Dec (a < enough) → SameUpTo enough (with_layer role a x) (with_layer role b x)
+    go (yes less) =
+        let e : a ≡ b = omega arith in
+        ap (λ (s : ℕ). min (with_layer role s x) enough) e
+    go (no most) = omega (arith, same, grows role a x, grows role b x)
+
+pub enough_up_to :
+    (role : Role) (enough a b : ℕ) (x : Layer) → enough ≤ a → SameUpTo enough a b → SameUpTo enough a (with_layer role b x)
+enough_up_to role enough a b x most same = omega (arith, same, grows role b x)

@@ -1,3 +1,4 @@
 pub mod Layers
 pub mod Bounds
+pub mod Kept
 pub mod Answers

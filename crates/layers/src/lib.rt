@@ -1,7 +1,9 @@
 // Layer times and EI (document 01, "Layer times"): what each board and lamella gives, behind those before it, and their sum.
 #![tactic(auto)]
 
+mod added;
 pub mod calls;
+pub mod kept;
 pub mod minutes;
 mod step;
 mod sums;

@@ -4,6 +4,7 @@ use mathlib.Core.Path.{◌≡◌, refl, sym, ap, ◌∙◌}
 use mathlib.Core.Bool.{Bool, true, false, not}
 use native.Mathlib.Omega.{arith}
 use native.Mathlib.Decide.{dec_le}
+use native.Mathlib.Nat.{le_refl, min_comm}
 use borrow.Author.Tests.{leb-true, leb-false, lt-ltb, le-ltb}
 use lib.Dec.{ltb}
 use Rattle.numbers.specs.Choice.{pick}
@@ -34,6 +35,10 @@ below_lesser m a b h = go (dec_le m b)
     go : Dec (m ≤ b) → ltb (min a b) m ≡ ltb b m
     go (yes k) = le-ltb (min a b) m (omega arith) ∙ sym (le-ltb b m k)
     go (no k) = lt-ltb (min a b) m (omega arith) ∙ sym (lt-ltb b m (omega arith))
+
+-- and as far as m it is below m where it is
+pub below_up_to : (m a : ℕ) → ltb (min a m) m ≡ ltb a m
+below_up_to m a = ap (λ (n : ℕ). ltb n m) (min_comm a m) ∙ below_lesser m m a (le_refl m)
 
 module _ (minutes : ℕ) (q : Panel) (most : minutes ≤ last_minute) (grade : (grade_of minutes).minutes ≡ minutes) where
   -- of an accepted panel R and EI are compared with the grade themselves

@@ -9,25 +9,40 @@ ghost use Rattle.planing.specs.Answers.{place_on, cut_behind, lowering, most_cut
 
 use crate::LEAST_KEPT;
 use grades::Grade;
-use layers::minutes::ei_minute_of;
+use layers::kept::KeptSums;
+use layers::minutes::ei_minute_up_to;
 use limits::check::Accepted;
 use limits::minute::Minute;
 use load::lasting::lasts;
 use panel::Panel;
 use ratings::Ratings;
 
-// An accepted panel and its REI grade. It holds the panel, since the check lends no part of a struct with a field that has a model.
+// An accepted panel, its REI grade, and the sums of its layer times kept for its cuts. It holds the panel, since the check lends no part of a
+// struct with a field that has a model.
 #[derive(Clone, Copy)]
 pub(crate) struct Rated {
     pub(crate) panel: Panel,
     grade: Grade,
+    kept: KeptSums,
     ghost accepted: { panel_refusal panel ≡ 0 },
     ghost nine: { panel.count ≤ 9 },
     ghost by_rei: { grade ≡ rei_grade panel },
 }
 
-// Whether a panel has less than a grade: it is enough that it does not pass through its minutes, or that EI is below them.
-fn is_lowered(minutes: Minute, q: Panel) -> bool
+// The cut panel; its unused places are the panel's. The panel and what is asked of `at` stay as they are.
+fn cut_panel(p: Panel, at: usize, tenths: u16) -> Panel
+    requires within { (at < p.count) × (p.count ≤ 9) }
+    requires tenths_bound { tenths ≤ get_or p.thicknesses at 0 }
+    ensures { SameUsed result (cut_panel p (record { place = suc at; tenths = tenths })) }
+{
+    let mut cut = p;
+    cut.thicknesses[at] -= tenths;
+    cut
+}
+
+// Whether a panel has less than a grade: it is enough that it does not pass through its minutes, or that EI, worked out no further, is
+// below them, whatever is kept.
+fn is_lowered(minutes: Minute, q: Panel, kept: &KeptSums) -> bool
     requires minutes_of_grade { (grade_of minutes).minutes ≡ minutes }
     requires q_value { refusal_to12 q ≡ 0 }
     ensures { result ≡ lowered minutes q }
@@ -36,7 +51,7 @@ fn is_lowered(minutes: Minute, q: Panel) -> bool
     if !lasts(q, minutes) {
         return true;
     }
-    ei_minute_of(Accepted::known(q)).number() < least
+    ei_minute_up_to(Accepted::known(q), minutes, Some(kept)).number() < least
 }
 
 impl Rated {
@@ -46,15 +61,16 @@ impl Rated {
         Rated {
             panel: accepted.panel(),
             grade: Ratings::of(accepted).rei_grade(),
+            kept: KeptSums::of(accepted),
         }
     }
 
     // The index of the lamella behind so many others as seen from the fire: its place less 1. The face is kept as it is, a raw number of the
     // panel; so is what is asked of `behind`, here and in `is_lowering`: where the panel has such a lamella is said by its count alone.
-    pub(crate) fn index_behind(self, behind: usize) -> usize
-        requires { behind < self.panel.count }
-        ensures place { result + 1 ≡ place_on self.panel.face self.panel.count behind }
-        ensures within { (result < self.panel.count) × (result < 9) }
+    pub(crate) fn index_behind(&self, behind: usize) -> usize
+        requires { behind < self.now.panel.count }
+        ensures place { result + 1 ≡ place_on self.now.panel.face self.now.panel.count behind }
+        ensures within { (result < self.now.panel.count) × (result < 9) }
     {
         if self.panel.face == 1 {
             self.panel.count - 1 - behind
@@ -63,28 +79,21 @@ impl Rated {
         }
     }
 
-    // The cut panel; its unused places are the panel's. What is asked of `at` stays as it is.
-    fn cut_panel(self, at: usize, tenths: u16) -> Panel
-        requires at_lt_count { at < self.panel.count }
-        requires tenths_bound { tenths ≤ get_or self.panel.thicknesses at 0 }
-        ensures { SameUsed result (cut_panel self.panel (record { place = suc at; tenths = tenths })) }
-    {
-        let mut cut = self.panel;
-        cut.thicknesses[at] -= tenths;
-        cut
-    }
-
     // Whether so many tenths may be taken off the lamella behind so many others as seen from the fire, and lower the grade. What is asked of
     // `behind` stays as it is.
-    pub(crate) fn is_lowering(self, behind: usize, tenths: u16) -> bool
-        requires behind_lt_count { behind < self.panel.count }
+    pub(crate) fn is_lowering(&self, behind: usize, tenths: u16) -> bool
+        requires behind_lt_count { behind < self.now.panel.count }
         requires tenths_nonzero { (0 < tenths) × (tenths ≤ most_cut) }
-        ensures { result ≡ lowering self.panel (cut_behind self.panel tenths behind) }
+        ensures { result ≡ lowering self.now.panel (cut_behind self.now.panel tenths behind) }
     {
         let at = self.index_behind(behind);
         if self.panel.thicknesses[at] < LEAST_KEPT + tenths {
             return false;
         }
-        is_lowered(Minute::of(self.grade.minutes), self.cut_panel(at, tenths))
+        is_lowered(
+            Minute::of(self.grade.minutes),
+            cut_panel(self.panel, at, tenths),
+            &self.kept,
+        )
     }
 }

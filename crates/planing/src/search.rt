@@ -7,10 +7,10 @@ use crate::{Cut, MOST_CUT};
 use limits::check::Accepted;
 
 // Behind how many others the nearest lamella to the fire stands off which so many tenths may be taken and lower the grade.
-fn first_behind(rated: Rated, tenths: u16) -> Option<usize>
+fn first_behind(rated: &Rated, tenths: u16) -> Option<usize>
     requires { (0 < tenths) × (tenths ≤ most_cut) }
-    ensures { MatchOption result (first_behind rated.panel tenths ≡ rated.panel.count)
-        (λ behind. (behind ≡ first_behind rated.panel tenths) × (behind < rated.panel.count)) }
+    ensures { MatchOption result (first_behind rated.now.panel tenths ≡ rated.now.panel.count)
+        (λ behind. (behind ≡ first_behind rated.now.panel tenths) × (behind < rated.now.panel.count)) }
 {
     (0..rated.panel.count).find(|&behind| rated.is_lowering(behind, tenths))
 }
@@ -22,7 +22,7 @@ pub fn least_cut(accepted: Accepted) -> Option<Cut>
 {
     let rated = Rated::of(accepted);
     for tenths in 1..=MOST_CUT {
-        if let Some(behind) = first_behind(rated, tenths) {
+        if let Some(behind) = first_behind(&rated, tenths) {
             return Some(Cut {
                 // The cast is kept as it is: `try_from` would add a branch that never runs.
                 place: rated.index_behind(behind) as u8 + 1,

@@ -1,8 +1,8 @@
 -- `layers::sums::ei_sum_of` meets its contract: boards, then lamellae, the last by insulation. Assumes nothing.
-use Prim.Native.Nat.{ℕ, ◌+◌, ◌-◌, ◌<◌}
-use Rattle.layers.proofs.Runs.{lamellae_lent, sum_of}
+use Prim.Native.Nat.{ℕ, ◌+◌, ◌-◌, ◌<◌, ◌≤◌, min}
+use Rattle.layers.proofs.Runs.{lamellae_lent, sum_of, more_up_to, enough_up_to}
 use Rattle.basic_times.specs.declared.Role.TheVariants.{Insulation}
-use Rattle.layers.specs.Layers.{with_layer, board_layer, lamella_layer, sum_after, ei_sum, protected_after}
+use Rattle.layers.specs.Layers.{Layer, with_layer, board_layer, lamella_layer, sum_after, ei_sum, protected_after}
 use Rattle.limits.proofs.Accepted.{thicknesses_keep}
 use Rattle.limits.specs.Keeps.{ThicknessKeeps}
 use Rattle.panel.specs.Boards.{boards_of}
@@ -14,7 +14,10 @@ use lib.ListN.{get_or, length}
 use mathlib.Core.List.{List, ◌++◌, map}
 use mathlib.Core.Path.{◌≡◌, sym, ap, subst, ◌∙◌}
 use native.Mathlib.Omega.{arith}
+use Rattle.layers.specs.Kept.{SameUpTo}
+use Rattle.panel.specs.declared.Panel.{Panel}
 use Rattle.layers.proofs.sums.ei_sum_of.Goals as goal
+use Rattle.layers.proofs.sums.ei_sum_of.Goals.{After-protected-s}
 
 pub protected-s-requires-clause-lamellae : goal.protected-s-requires-clause-lamellae
 protected-s-requires-clause-lamellae c =
@@ -31,20 +34,45 @@ pub with_lamella-requires : goal.with_lamella-requires
 with_lamella-requires c =
     (c.protected-s.ensures.most, thicknesses_keep c.args.p c.requires (c.args.p.count - 1) (omega arith))
 
-pub returns : goal.returns
-unfolding ei_sum
-returns c =
+-- what the lamellae but the last give by protection
+abbrev protected_in : Panel → ℕ
+protected_in p =
+    protected_after (protected_after 0 (map board_layer (boards_of p.cladding))) (map lamella_layer (lamellae_of p.directions p.thicknesses (p.count - 1)))
+
+abbrev last_in : Panel → Layer
+last_in p = lamella_layer (lamella (get_or p.directions (p.count - 1) 0) (get_or p.thicknesses (p.count - 1) 0))
+
+so_far : (c : After-protected-s) → SameUpTo c.args.enough c.protected-s.result (protected_in c.args.p)
+so_far c =
     let p = c.args.p in
-    let gs = p.directions in
-    let ts = p.thicknesses in
-    let bs = map board_layer (boards_of p.cladding) in
     let i = p.count - 1 in
-    let nine : length ts ≡ 9 = search rules in
-    let e : i + 1 ≡ p.count = omega arith in
-    c.with_lamella.ensures.0 (get_or gs i 0)
-    ∙ ap (λ (k : ℕ). with_layer Insulation k (lamella_layer (lamella (get_or gs i 0) (get_or ts i 0))))
-    (c.protected-s.ensures.sum gs
-    ∙ ap (λ (ls : List Lamella). protected_after c.boards_sum.result (map lamella_layer ls)) (lamellae_lent gs ts i (omega arith))
-    ∙ ap (λ (k : ℕ). protected_after k (map lamella_layer (lamellae_of gs ts i))) c.boards_sum.ensures.0)
-    ∙ sym (sum_of bs gs ts i)
-    ∙ ap (λ (k : ℕ). sum_after 0 (bs ++ map lamella_layer (lamellae_of gs ts k))) e
+    let nine : length p.thicknesses ≡ 9 = search rules in
+    let least = c.requires.count_least in
+    let most = c.requires.section.count in
+    c.protected-s.ensures.sum p.directions
+    ∙ ap (λ (k : ℕ). min k c.args.enough)
+    (ap (λ (ls : List Lamella). protected_after c.sum_of_boards.result (map lamella_layer ls)) (lamellae_lent p.directions p.thicknesses i (omega arith))
+    ∙ ap (λ (k : ℕ). protected_after k (map lamella_layer (lamellae_of p.directions p.thicknesses i))) c.sum_of_boards.ensures.sum)
+
+-- and the last by insulation
+whole : (p : Panel) → 1 ≤ p.count → with_layer Insulation (protected_in p) (last_in p) ≡ ei_sum p
+unfolding ei_sum
+whole p least =
+    let bs = map board_layer (boards_of p.cladding) in
+    let e : p.count - 1 + 1 ≡ p.count = omega arith in
+    sym (sum_of bs p.directions p.thicknesses (p.count - 1))
+    ∙ ap (λ (k : ℕ). sum_after 0 (bs ++ map lamella_layer (lamellae_of p.directions p.thicknesses k))) e
+
+pub returns-then-s-enough-clause-sum : goal.returns-then-s-enough-clause-sum
+returns-then-s-enough-clause-sum c =
+    let p = c.args.p in
+    ap (λ (k : ℕ). min k c.args.enough) (c.with_lamella.ensures.sum (get_or p.directions (p.count - 1) 0))
+    ∙ more_up_to Insulation c.args.enough c.protected-s.result (protected_in p) (last_in p) (so_far (goal.at.returns-then-s-enough-clause-sum c).After-protected-s)
+    ∙ ap (λ (k : ℕ). min k c.args.enough) (whole p c.requires.count_least)
+
+pub returns-else-s-enough-clause-sum : goal.returns-else-s-enough-clause-sum
+returns-else-s-enough-clause-sum c =
+    let p = c.args.p in
+    enough_up_to Insulation c.args.enough c.protected-s.result (protected_in p) (last_in p) c.if-s-enough.false
+    (so_far (goal.at.returns-else-s-enough-clause-sum c).After-protected-s)
+    ∙ ap (λ (k : ℕ). min k c.args.enough) (whole p c.requires.count_least)

@@ -1,25 +1,41 @@
--- `layers::sums::protected` meets its contract: after i turns the sum is that of the first i lamellae. Assumes nothing.
-use Prim.Native.Nat.{ℕ}
-use Rattle.layers.proofs.Runs.{protected_more}
+-- `layers::sums::protected` meets its contract: after i turns the sum is that of the first i lamellae, or both are enough. Assumes nothing.
+use Prim.Native.Nat.{ℕ, min}
+use Rattle.layers.proofs.Runs.{protected_more, more_up_to, enough_up_to}
 use Rattle.basic_times.specs.declared.Role.TheVariants.{Protection}
-use Rattle.layers.specs.Layers.{with_layer, lamella_layer, protected_after}
+use Rattle.layers.specs.Layers.{lamella_layer, protected_after}
 use Rattle.panel.specs.Lamellae.{lamella, lamellae_of}
 use lib.ListN.{get_or}
+use mathlib.Core.List.{map}
 use mathlib.Core.Path.{refl, sym, ap, ◌∙◌}
 use native.Mathlib.Omega.{arith}
 use Rattle.layers.proofs.sums.protected.Goals as goal
+use Rattle.layers.proofs.sums.protected.Goals.{then-sum-enough, else-sum-enough}
 
-pub loop-thickness-init : goal.loop-thickness-init
+pub loop-at-init : goal.loop-at-init
 unfolding lamellae_of protected_after
-loop-thickness-init c = record { most = omega arith; so_far = λ gs. refl }
+loop-at-init c = record { most = omega arith; so_far = λ gs. refl }
 
-pub loop-thickness-preserved : goal.loop-thickness-preserved
-loop-thickness-preserved c =
+pub loop-at-preserved : goal.loop-at-preserved
+loop-at-preserved c =
+    let s = c.args.s in
     let ts = c.args.thicknesses.now in
-    let i = c.loop-thickness.thickness-index in record {
-      most = omega arith;
-      so_far = λ gs.
-          c.with_lamella-sum.ensures.0 (get_or gs i 0)
-          ∙ ap (λ (k : ℕ). with_layer Protection k (lamella_layer (lamella (get_or gs i 0) (get_or ts i 0)))) (c.loop-thickness.invariant.so_far gs)
-          ∙ sym (protected_more c.args.s gs ts i);
-    }
+    let i = c.loop-at.at in
+    let enough = c.args.enough in
+    elim c.if-sum-enough.branch [
+      | then-sum-enough w ↦ record {
+        most = omega (arith, w.sum-is, w.with_lamella_at-sum.ensures.most, c.loop-at.invariant.most);
+        so_far = λ gs.
+            let x = lamella_layer (lamella (get_or gs i 0) (get_or ts i 0)) in
+            ap (λ (k : ℕ). min k enough) (w.sum-is ∙ w.with_lamella_at-sum.ensures.sum (get_or gs i 0))
+            ∙ more_up_to Protection enough c.loop-at.sum (protected_after s (map lamella_layer (lamellae_of gs ts i))) x (c.loop-at.invariant.so_far gs)
+            ∙ sym (ap (λ (k : ℕ). min k enough) (protected_more s gs ts i));
+      }
+      | else-sum-enough w ↦ record {
+        most = omega (arith, w.sum-is, c.loop-at.invariant.most);
+        so_far = λ gs.
+            let x = lamella_layer (lamella (get_or gs i 0) (get_or ts i 0)) in
+            ap (λ (k : ℕ). min k enough) w.sum-is
+            ∙ enough_up_to Protection enough c.loop-at.sum (protected_after s (map lamella_layer (lamellae_of gs ts i))) x (omega (arith, w.if-sum-enough)) (c.loop-at.invariant.so_far gs)
+            ∙ sym (ap (λ (k : ℕ). min k enough) (protected_more s gs ts i));
+      }
+    ]

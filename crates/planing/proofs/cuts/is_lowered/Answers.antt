@@ -1,8 +1,9 @@
 -- `planing::cuts::is_lowered` meets its contract: neither R nor the grade need be worked out. Assumes nothing.
-use Prim.Native.Nat.{◌≤◌}
+use Prim.Native.Nat.{◌≤◌, min}
 use Rattle.layers.specs.Layers.{printed_ei}
 use Rattle.limits.specs.Causes.{last_minute}
-use Rattle.planing.proofs.Lowering.{fails_lowered, lasting_accepted, lasting_by_ei}
+use Rattle.planing.proofs.Lowering.{below_up_to, fails_lowered, lasting_accepted, lasting_by_ei}
+use Rattle.panel.specs.declared.Panel.{Panel}
 use lib.Dec.{ltb}
 use mathlib.Core.Path.{sym, ap, ap₂, subst, ◌∙◌}
 use Rattle.planing.proofs.cuts.is_lowered.Goals as goal
@@ -24,7 +25,8 @@ known-requires c =
 
 pub returns : goal.returns
 returns c =
-    ap₂ ltb (c.number.ensures.number ∙ c.ei_minute_of.ensures ∙ ap printed_ei c.known.ensures) c.number-least.ensures.number
+    ap₂ ltb (c.number.ensures.number ∙ c.ei_minute_up_to.ensures ∙ ap (λ (q : Panel). min (printed_ei q) c.args.minutes) c.known.ensures) c.number-least.ensures.number
+    ∙ below_up_to c.args.minutes (printed_ei c.args.q)
     ∙ sym
     (lasting_by_ei c.args.minutes c.args.q (most (goal.at.returns c).After-number-least) c.requires.minutes_of_grade c.requires.q_value
     (sym c.lasts.ensures ∙ c.if-not-lasts.false))

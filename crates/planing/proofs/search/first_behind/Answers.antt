@@ -9,7 +9,7 @@ find-requires-clause-callable c = serves_from_Range (λ x q k. search (rules, te
 
 pub returns : goal.returns
 returns c =
-    let p = c.args.rated.panel in
+    let p = c.args.rated.now.panel in
     let tenths = c.args.tenths in
     first_found p tenths c.find.result
     (first_from_Range _ _ _ _ (Lowers p tenths) (LowersNot p tenths) c.find.ensures.ran (λ x q k. search rules) (λ x q k. (search rules, search rules)))

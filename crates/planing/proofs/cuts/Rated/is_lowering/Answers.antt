@@ -41,11 +41,11 @@ module _ (p : Panel) (at tenths : ℕ) (h : at < p.count) (some : 0 < tenths) wh
 
 pub index_behind-at-requires : goal.index_behind-at-requires
 index_behind-at-requires c =
-    let x = c.args.self in c.requires.behind_lt_count
+    let x = c.args.self.now in c.requires.behind_lt_count
 
 pub returns-then-self-at : goal.returns-then-self-at
 returns-then-self-at c =
-    let p = c.args.self.panel in
+    let p = c.args.self.now.panel in
     let at = c.index_behind-at in
     sym
     (ap (λ (b : Bool). b && lowered (rei_grade p).minutes (cut_panel p (cut_of at.result c.args.tenths)))
@@ -54,18 +54,18 @@ returns-then-self-at c =
 
 pub cut_panel-requires : goal.cut_panel-requires
 cut_panel-requires c =
-    let x = c.args.self in record {
-      at_lt_count = c.index_behind-at.ensures.within.0;
+    let x = c.args.self.now in record {
+      within = (c.index_behind-at.ensures.within.0, x.nine);
       tenths_bound = omega (arith, c.if-self-at.false);
     }
 
 pub of-requires : goal.of-requires
 of-requires c =
-    subst (λ (g : Grade). g.minutes ≤ last_minute) (sym c.args.self.by_rei) (rei_is_grade c.args.self.panel).0
+    subst (λ (g : Grade). g.minutes ≤ last_minute) (sym c.args.self.now.by_rei) (rei_is_grade c.args.self.now.panel).0
 
 pub is_lowered-requires : goal.is_lowered-requires
 is_lowered-requires c =
-    let x = c.args.self in
+    let x = c.args.self.now in
     let at = c.index_behind-at in
     let cut = cut_of at.result c.args.tenths in
     let kept = thick_enough x.panel at.result c.args.tenths at.ensures.within.0 c.requires.tenths_nonzero.0 c.if-self-at.false in record {
@@ -75,7 +75,7 @@ is_lowered-requires c =
 
 pub returns : goal.returns
 returns c =
-    let x = c.args.self in
+    let x = c.args.self.now in
     let p = x.panel in
     let at = c.index_behind-at in
     let cut = cut_of at.result c.args.tenths in
