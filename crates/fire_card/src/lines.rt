@@ -53,10 +53,9 @@ fn push_ratings(text: &mut Text<CARD_MOST>, ratings: &Ratings)
 pub(crate) fn text_of_card(accepted: Accepted) -> Text<CARD_MOST>
     ensures { result ≡ text_of_card accepted }
 {
-    let ratings = Ratings::of(accepted);
     let mut text = Text::new();
     text.push_line(b"CARD", &[u32::from(accepted.panel().version)]);
     push_chars(&mut text, &Fire::of(accepted.shown().panel()));
-    push_ratings(&mut text, &ratings);
+    push_ratings(&mut text, &Ratings::of(accepted));
     text
 }

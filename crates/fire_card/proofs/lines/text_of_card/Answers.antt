@@ -14,4 +14,4 @@ unfolding text_of_card
 returns c =
     let head = c.push_line.ensures.added ∙ ap₂ (λ (text : List ℕ) (n : ℕ). text ++ text_line card_head (n ∷ [])) c.new-text.ensures (c.from.ensures ∙ ap (λ (q : Panel). q.version) c.panel.ensures.panel) in
     let chars = c.push_chars.ensures.added ∙ ap₂ (λ (text lines : List ℕ). text ++ lines) head (ap char_lines (c.of.ensures ∙ c.panel-2.ensures.panel ∙ c.shown.ensures)) in
-    c.push_ratings.ensures ∙ ap₂ (λ (text : List ℕ) (q : Panel). text ++ rating_lines q) chars c.of-ratings.ensures
+    c.push_ratings.ensures ∙ ap₂ (λ (text : List ℕ) (q : Panel). text ++ rating_lines q) chars c.of-2.ensures
