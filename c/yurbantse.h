@@ -12,8 +12,8 @@
    - `out` shares no byte with `bytes`, and nothing else writes either before the call returns.
    The functions keep nothing, allocate nothing and call only memcpy and memset. Two threads may call them at once on different spaces.
 
-   Stack, from the call on, without what memcpy and memset use: a card takes at most STACKCARD bytes, the least cut STACKPLANING, a refusal
-   STACKREFUSAL (read off the machine code and tried on a painted stack, by bench/stack.py). Constants: TABLEBYTES bytes, read only. */
+   Stack, from the call on, without what memcpy and memset use: a card takes at most 2,447 bytes, the least cut 2,511, a refusal
+   104 (read off the machine code and tried on a painted stack, by bench/stack.py). Constants: 6,498 bytes, read only. */
 #ifndef YURBANTSE_H
 #define YURBANTSE_H
 

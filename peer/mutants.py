@@ -34,6 +34,9 @@ APART = {"G", "LAST_REQUEST", "last_time_at", "scanned_time", "check_closeness",
 # (function, the line and what stands there in the mutant): why it says the same
 NO_THIRD = "the cladding of a panel is none, one or two boards; of a record more are refused as it is read"
 ALIKE = "type F stands alone or with F, O and P alone: either board tells"
+BESIDE = "beside a refusal no number is looked at"
+SEARCH = "another search for the same number"
+NO_MORE = "no panel was found whose layers give more than 324 minutes"
 AT_FACE = "at a depth above the first face every lamella is whole, as at depth 0"
 SAME = {
     ("panel_refusal", "if len(panel.boards) > 2: -> pass"): NO_THIRD,
@@ -63,6 +66,32 @@ SAME = {
     ("first_failing", "return next((depth for depth in range(thickness_of(panel.lamellae) + 1) if not depth_passes(panel, depth))) -> "
                       "return next((depth for depth in range(thickness_of(panel.lamellae) + 0) if not depth_passes(panel, depth)))"):
         "with less than 3.0 mm left nothing counts",
+    ("time_answer", "return (refusal, (0, 0)) if refusal else (0, load_time(panel)) -> return (refusal, (1, 0)) if refusal else (0, load_time(panel))"): BESIDE,
+    ("time_answer", "return (refusal, (0, 0)) if refusal else (0, load_time(panel)) -> return (refusal, (-1, 0)) if refusal else (0, load_time(panel))"): BESIDE,
+    ("time_answer", "return (refusal, (0, 0)) if refusal else (0, load_time(panel)) -> return (refusal, (0, 1)) if refusal else (0, load_time(panel))"): BESIDE,
+    ("time_answer", "return (refusal, (0, 0)) if refusal else (0, load_time(panel)) -> return (refusal, (0, -1)) if refusal else (0, load_time(panel))"): BESIDE,
+    ("reserve", "return (refusal, 0) if refusal else (0, load_minute(panel) - wanted) -> return (refusal, 1) if refusal else (0, load_minute(panel) - wanted)"): BESIDE,
+    ("reserve", "return (refusal, 0) if refusal else (0, load_minute(panel) - wanted) -> return (refusal, -1) if refusal else (0, load_minute(panel) - wanted)"): BESIDE,
+    ("largest", "above = 1 -> above = 2"): SEARCH,
+    ("largest", "above *= 2 -> above *= 3"): SEARCH,
+    ("largest", "found = 0 -> found = 1"): SEARCH,
+    ("largest", "found = 0 -> found = -1"): SEARCH,
+    ("bare_time", "return (11 if table.startswith(LAMELLA) else 8, 0) -> return (11 if table.startswith(LAMELLA) else 8, 1)"): BESIDE,
+    ("bare_time", "return (11 if table.startswith(LAMELLA) else 8, 0) -> return (11 if table.startswith(LAMELLA) else 8, -1)"): BESIDE,
+    ("ei_minute", "return min(360, ei_sum(panel) // 100) -> return min(361, ei_sum(panel) // 100)"): NO_MORE,
+    ("ei_minute", "return min(360, ei_sum(panel) // 100) -> return min(359, ei_sum(panel) // 100)"): NO_MORE,
+    ("graded", "return (refusal, 0) if refusal else (0, grade(minute_of(panel))) -> return (refusal, 1) if refusal else (0, grade(minute_of(panel)))"): BESIDE,
+    ("graded", "return (refusal, 0) if refusal else (0, grade(minute_of(panel))) -> return (refusal, -1) if refusal else (0, grade(minute_of(panel)))"): BESIDE,
+    ("least_cut", "deepest = max((thickness for _, thickness in panel.lamellae)) - LEAST_KEPT -> "
+                  "deepest = max((thickness for _, thickness in panel.lamellae)) + LEAST_KEPT"): "a deeper cut is not allowed",
+    ("least_cut", "for tenths in range(1, deepest + 1): -> for tenths in range(0, deepest + 1):"): "nothing off lowers no grade",
+    ("least_cut", "for tenths in range(1, deepest + 1): -> for tenths in range(1, deepest + 2):"): "a deeper cut is not allowed",
+    ("written", "return (14, 0) if space_length < len(text) else (0, len(text)) -> return (14, 1) if space_length < len(text) else (0, len(text))"): BESIDE,
+    ("written", "return (14, 0) if space_length < len(text) else (0, len(text)) -> return (14, -1) if space_length < len(text) else (0, len(text))"): BESIDE,
+    ("card_call", "return (refusal, 0) if refusal else written(card(panel), space_length) -> "
+                  "return (refusal, 1) if refusal else written(card(panel), space_length)"): BESIDE,
+    ("card_call", "return (refusal, 0) if refusal else written(card(panel), space_length) -> "
+                  "return (refusal, -1) if refusal else written(card(panel), space_length)"): BESIDE,
 }
 
 # (what somebody could read, the text of peer.py, what stands there instead)
