@@ -2,8 +2,8 @@
 
 Holds the stored cases to peer.py: each of its sentences is made wrong, one at a time, and some stored case of a test program must then be
 answered otherwise. A mutant that every case answers as before is a missing case, or says the same in other words: those that do are named
-in SAME below, each with its reason. NAME: a function of peer.py, whose mutants alone are tried. Takes some minutes; ends with status 1
-where a mutant lives, and prints it.
+in SAME below, each with its reason. NAME: a function of peer.py, whose mutants alone are tried. Takes half an hour on two cores. Ends with
+status 1 where a mutant lives, and prints it.
 
 The cases are those of make_cases.py, worked out once by peer.py as it is. A mutant is a copy of peer.py with another operator, another
 number, the other of two, or a condition left out; and the misreadings of MISREADINGS, which somebody could write down in earnest.
