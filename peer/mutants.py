@@ -25,7 +25,7 @@ with open(os.path.join(HERE, "peer.py")) as file:
 with open(os.path.join(HERE, "programs.py")) as file:
     PROGRAMS = file.read()
 
-LONGEST = 60  # seconds that a mutant may take for one case
+LONGEST = 600  # seconds that a mutant may take for one case
 
 # What is no sentence of the paper: how the failure time is found, which check.py holds to what it means, by some of these; tables; and what
 # cases are made of.
