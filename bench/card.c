@@ -30,7 +30,7 @@ typedef struct {
 /* Times in thousandths of a minute, lengths in picometres. */
 typedef struct {
     uint64_t start, failure, slow, plain, depth, end, back, full;
-} Fire;
+} CharringValues;
 
 typedef struct {
     uint64_t from, end, left, gained;
@@ -273,10 +273,10 @@ static uint64_t passed_end(const Panel *p, uint64_t deep, uint64_t intact)
     return end;
 }
 
-static Fire fire_of(const Panel *p)
+static CharringValues fire_of(const Panel *p)
 {
     const uint64_t fast_run = UINT64_C(25000000000);
-    Fire f;
+    CharringValues f;
     uint64_t k2 = p->boards == 0 ? 0 : 10000 - UINT64_C(18) * p->board[p->boards - 1].thickness, total = 0;
     for (size_t i = 0; i < p->count; i++)
         total += p->thicknesses[i];
@@ -301,7 +301,7 @@ static void cross(Place *s, uint64_t to, uint64_t q)
     s->end = to + UINT64_C(25000000000);
 }
 
-static uint64_t walk(const Panel *p, const Fire *f, uint64_t x, uint64_t q)
+static uint64_t walk(const Panel *p, const CharringValues *f, uint64_t x, uint64_t q)
 {
     Place s = {f->depth, f->end, x, 0};
     uint64_t line = 0;
@@ -315,7 +315,7 @@ static uint64_t walk(const Panel *p, const Fire *f, uint64_t x, uint64_t q)
 }
 
 /* In half picometres, times q. */
-static uint64_t char_of(const Panel *p, const Fire *f, uint64_t n, uint64_t q)
+static uint64_t char_of(const Panel *p, const CharringValues *f, uint64_t n, uint64_t q)
 {
     uint64_t time = 1000 * n;
     uint64_t under = 2 * f->slow * smaller(beyond(time, q * f->start), q * (f->failure - f->start));
@@ -323,13 +323,13 @@ static uint64_t char_of(const Panel *p, const Fire *f, uint64_t n, uint64_t q)
     return smaller(under + after, 2 * q * f->back);
 }
 
-static uint32_t micrometres_in(const Panel *p, const Fire *f, uint64_t minute)
+static uint32_t micrometres_in(const Panel *p, const CharringValues *f, uint64_t minute)
 {
     return (uint32_t)((char_of(p, f, minute, 1) + 1999999) / 2000000);
 }
 
 /* What is divided is times q and f->full: at most 6e18. */
-static uint32_t tenths_in(const Panel *p, const Fire *f, uint64_t n, uint64_t q)
+static uint32_t tenths_in(const Panel *p, const CharringValues *f, uint64_t n, uint64_t q)
 {
     uint64_t full = q * f->full, by = 200000000 * full;
     uint64_t deep = smaller(f->full * char_of(p, f, n, q) + UINT64_C(14000000000) * smaller(1000 * n, full), 2 * full * f->back);
@@ -338,7 +338,7 @@ static uint32_t tenths_in(const Panel *p, const Fire *f, uint64_t n, uint64_t q)
 
 /* ---- the failure time's whole seconds */
 
-static uint32_t load_second(const Panel *p, const Fire *f)
+static uint32_t load_second(const Panel *p, const CharringValues *f)
 {
     uint64_t last = last_passing(p, f->back / 100000000), second = 0, past = 60 * 360 + 1;
     while (second + 1 < past) {
@@ -458,11 +458,11 @@ int32_t yurbantse_card(const uint8_t *bytes, size_t bytes_length, uint8_t *out, 
         return -refusal;
     if (p.face == 1)
         p = turned(&p);
-    Fire f = fire_of(&p);
+    CharringValues f = fire_of(&p);
     uint32_t second = load_second(&p, &f), ei = ei_minute(&p);
     if (p.face == 2) {
         Panel t = turned(&p);
-        Fire last = fire_of(&t);
+        CharringValues last = fire_of(&t);
         second = (uint32_t)smaller(second, load_second(&t, &last));
         ei = (uint32_t)smaller(ei, ei_minute(&t));
     }

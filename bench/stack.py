@@ -5,8 +5,8 @@ call on, the return address among them, by two ways:
 
 - the most there can be, for any input: the frames along the deepest path of calls, read off the machine code (objdump). What C's memcpy
   and memset use themselves is not in it;
-- the most that was used, those two included, on a painted stack (bench/stack.c), over the records of test_cards, test_records and
-  test_planing and 300 random panels.
+- the most that was used, those two included, on a painted stack (bench/stack.c), over the records of test_calls/data/cards,
+  records and planing and 300 random panels.
 
 Ends with status 1 where more was used than there can be, or a function recurs, or calls what the machine code does not name.
 """

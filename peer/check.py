@@ -1,5 +1,5 @@
 """check.py [N]: holds peer.py to the figures of documents 01 and 02 and of the notes on its readings, R and RS to their definition on the
-panels of test_cards, in either fire, and on N random ones, the last face's fire to that of a panel recorded the other way round, and cuts
+panels of test_calls/data/cards, in either fire, and on N random ones, the last face's fire to that of a panel recorded the other way round, and cuts
 to the grades of the cut panels."""
 import argparse
 import random
@@ -57,8 +57,8 @@ def check_document():
     same([peer.ei_sum(panel) for panel in (G, crossed(20, 20, 20)._replace(boards=one().boards))], [9506, 5933])
     same([peer.panel_refusal(one(thickness=thickness)) for thickness in (89, 90, 250, 251)], [8, 0, 0, 8])
     same([peer.panel_refusal(with_first_lamella(G, ALONG, thickness)) for thickness in (99, 100)], [11, 0])
-    same(peer.card_text(peer.encode(G)), PRINTED)
-    same(peer.card_text(peer.encode(G._replace(moment=43_057))), b"REFUSED 13\n")
+    same(peer.text_lines(peer.encode(G)), PRINTED)
+    same(peer.text_lines(peer.encode(G._replace(moment=43_057))), b"REFUSED 13\n")
     same([peer.card_call(peer.encode(G), space) for space in (115, 114)], [(0, 115), (14, 0)])
 
 
@@ -77,7 +77,7 @@ def check_versions():
     """Document 02, 3/14: what is read, refused and written in both versions, and which panels are the same build."""
     g, g2 = peer.encode(G), peer.encode(faced(G, EACH_ALONE))
     same((len(g2), g2[2:4], g2[4:]), (len(g) + 1, bytes([2, 2]), g[3:]))
-    same(peer.card_text(peer.encode(faced(G, FIRST_FACE))), PRINTED.replace(b"CARD 1", b"CARD 2"))
+    same(peer.text_lines(peer.encode(faced(G, FIRST_FACE))), PRINTED.replace(b"CARD 1", b"CARD 2"))
     for panel in (G, faced(G, LAST_FACE), faced(LONGEST, EACH_ALONE)):
         same(peer.decode(peer.encode(panel)), (0, panel))
     same([len(peer.encode(faced(panel, FIRST_FACE))) for panel in (SHORTEST, LONGEST)], [22, 54])
@@ -125,7 +125,7 @@ def check_readings():
     same(peer.char(of("00190100640100f0000000000100057e4046005a6401010064"), 15)[1], "settled")  # 7
     for record, refusal in (("00150100410000f000000000000000000002010064", 10), ("00150100410000f000000000000000000102010064", 9),
                             ("001c0100410000f000000000020000000058005a6441000964010100", 6)):  # 8
-        same(peer.card_text(bytes.fromhex(record)), b"REFUSED %d\n" % refusal)
+        same(peer.text_lines(bytes.fromhex(record)), b"REFUSED %d\n" % refusal)
     panel = of("00190100500000f0000001f4010000ee4846007d6401010258")
     same((peer.exact_failure(panel), peer.load_minute(panel), peer.load_time(panel)), (83, 83, (83, 0)))
     for moment, failure, time in ((42_000, Fraction(48, 60), (0, 48)), (43_056, 0, (0, 0))):

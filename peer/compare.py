@@ -1,8 +1,8 @@
 """compare.py REPOSITORY [--records N] [--seed S] [--bin] [WORD..]
 
-Runs the test programs on random records, and on random raw panels, and compares what they print with peer.py. WORD is a word of theirs, as
-`read` or `panel`; none: all of them. Nothing has to be proved: `rt try` builds a program with checks, once for all of its input, which goes
-in pieces, as a program reads 64 KiB at most. --bin: runs the proved programs, crates/NAME/out/NAME, instead.
+Runs the test program on random records, and on random raw panels, and compares what it prints with peer.py. WORD is a word of its, as
+`read` or `panel`; none: all of them. Nothing has to be proved: `rt try` builds the program with checks, once for all of its input, which goes
+in pieces, as the program takes less than 64 KiB at a time. --bin: runs the proved program, crates/test_calls/out/test_calls, instead.
 Ends with status 1 at a disagreement, and prints its line; and where something is missing, and says what.
 """
 import os
@@ -212,7 +212,7 @@ def cases(call, seed, count):
             yield random_minute(rng), random_minute(rng), text
         elif call == "card":
             record = random_load(rng, record)
-            yield record, random_card_space(rng, peer.card_text(record)), text
+            yield record, random_card_space(rng, peer.text_lines(record)), text
         elif call == "refusal":
             yield number % 256, random_card_space(rng, peer.refusal_text(number % 256)), text
         elif call == "reserve":
@@ -256,32 +256,32 @@ def first_difference(said, expected):
     return next((i for i in range(min(len(a), len(b))) if a[i] != b[i]), min(len(a), len(b)))
 
 
-def crate_of(repository, program):
-    return os.path.join(repository, "crates", program)
+def crate_of(repository):
+    return os.path.join(repository, "crates", programs.PROGRAM)
 
 
-def bin_of(repository, program):
-    return os.path.join(crate_of(repository, program), "out", program)
+def bin_of(repository):
+    return os.path.join(crate_of(repository), "out", programs.PROGRAM)
 
 
-def run_bin(repository, program, asked):
+def run_bin(repository, asked):
     """Of the inputs the number of the first that the proved program answers otherwise, the line, and what it says there; or None."""
     for number, (given, expected) in enumerate(asked):
-        run = subprocess.run([bin_of(repository, program)], input=given, capture_output=True, text=True, errors="replace")
+        run = subprocess.run([bin_of(repository)], input=given, capture_output=True, text=True, errors="replace")
         at = first_difference(run.stdout, expected)
         if at is not None or run.returncode:
             return number, at or 0, (run.stdout.split("\n") + [""])[at or 0] + run.stderr
     return None
 
 
-def run_try(repository, program, asked):
+def run_try(repository, asked):
     """The same of the program as `rt try` runs it, which is built once for all inputs."""
     with tempfile.TemporaryDirectory() as folder:
         for number, (given, expected) in enumerate(asked):
             for name, text in ((f"{number:05}", given), (f"{number:05}.stdout", expected)):
                 with open(os.path.join(folder, name), "w") as file:
                     file.write(text)
-        run = subprocess.run(["rt", "try", "--cases", folder], cwd=crate_of(repository, program), stdin=subprocess.DEVNULL,
+        run = subprocess.run(["rt", "try", "--cases", folder], cwd=crate_of(repository), stdin=subprocess.DEVNULL,
                              capture_output=True, text=True, errors="replace")
     if run.returncode == 0:
         return None
@@ -309,16 +309,16 @@ def case_at(call, group, line):
     return case
 
 
-def compare(run, repository, program, calls, seed, count):
+def compare(run, repository, calls, seed, count):
     drawn = {call: list(cases(call, seed, count)) for call in calls}
     groups = [(call, group) for call in calls for group in pieces(call, drawn[call])]
     asked = [programs.lines(call, group) for call, group in groups]
-    wrong = run(repository, program, asked)
+    wrong = run(repository, asked)
     if wrong:
         number, at, said = wrong
         call, group = groups[number]
         line = (asked[number][1].split("\n") + [""])[at]
-        print(f"{program} disagrees at\n  {programs.asked(call, case_at(call, group, at))}  peer:    {line}\n  program: {said[-3000:]}")
+        print(f"{programs.PROGRAM} disagrees at\n  {programs.asked(call, case_at(call, group, at))}  peer:    {line}\n  program: {said[-3000:]}")
         return False
     for call in calls:
         print(f"{call}: {len(drawn[call])} agree", flush=True)
@@ -340,16 +340,11 @@ def arguments():
 
 def main():
     given, words = arguments()
-    by_program = {program: [word for word in words if programs.program_of(word) == program]
-                  for program in dict.fromkeys(map(programs.program_of, words))}
     if given.bin:
-        for program in by_program:
-            needs.made(bin_of(given.repository, program), f"cd {crate_of(given.repository, program)}; rt run < stdin")
+        needs.made(bin_of(given.repository), f"cd {crate_of(given.repository)}; rt run < /dev/null")
     else:
         needs.installed("rt")
-    agree = [compare(run_bin if given.bin else run_try, given.repository, program, calls, given.seed, given.records)
-             for program, calls in by_program.items()]
-    sys.exit(not all(agree))
+    sys.exit(not compare(run_bin if given.bin else run_try, given.repository, words, given.seed, given.records))
 
 
 if __name__ == "__main__":

@@ -1,8 +1,9 @@
-"""make_cases.py REPOSITORY: writes `stdin` and `stdout` of each test program from one list of cases.
+"""make_cases.py REPOSITORY: writes what the test program and the programs that print cards read and must print, from one list of cases.
 
 What a program must print is worked out by peer.py, never by the program itself.
 """
 import os
+import shutil
 from itertools import accumulate
 
 import needs
@@ -1168,7 +1169,7 @@ def planing_cases():
     yield peer.encode(G._replace(moment=43_057)), "a refused record, so a blank panel"
 
 
-# ---------------------------------------------------------------- test_panels
+# ---------------------------------------------------------------- Raw panels
 # Raw panels: what no record gives too. Where nothing else is said a panel is asked for minute 60 and a depth of 25.0 mm.
 
 FULL_BOARD, FULL_LAMELLA = Board(255, 65_535, 255), (255, 65_535)
@@ -1386,44 +1387,49 @@ CASES = {"read": record_cases, "write": write_cases, "build": build_cases,
          "planing": planing_cases,
          "panel": raw_cases, "each": each_cases, "pair": pair_cases, "start": start_cases}
 
-# the program that prints a card: what it reads
-CARD_INPUTS = {"card": g, "card_empty": b"", "card_long": peer.encode(faced(LONGEST, FIRST_FACE)) + bytes(1),
-               "card_refused": peer.encode(G._replace(moment=43_057)),
-               "card_last_face": peer.encode(faced(behind(WALL, (A, 125)), LAST_FACE)),
-               "card_each_face": peer.encode(faced(behind(WALL, (A, 125)), EACH_ALONE)), "card_face_3": patched(g_each, FACE, 3)}
+# a file of `cards`: the record in it
+CARD_FILES = {"empty": b"", "long": peer.encode(faced(LONGEST, FIRST_FACE)) + bytes(1),
+              "refused": peer.encode(G._replace(moment=43_057)),
+              "last_face": peer.encode(faced(behind(WALL, (A, 125)), LAST_FACE)),
+              "each_face": peer.encode(faced(behind(WALL, (A, 125)), EACH_ALONE)), "face_3": patched(g_each, FACE, 3)}
 
 
-def store(repository, name, file, data):
-    folder = os.path.join(repository, "crates", name)
-    os.makedirs(folder, exist_ok=True)
-    with open(os.path.join(folder, file), "wb") as out:
+def store(path, data):
+    os.makedirs(os.path.dirname(path), exist_ok=True)
+    with open(path, "wb") as out:
         out.write(data)
 
 
-def called_lines(program):
-    """The text of stdin and of stdout of a program that is told its calls."""
+def store_files(repository, program, files):
+    """Of a program that is given files, (what is read, what must be printed) by their names: its data, its arguments and its output."""
+    folder = os.path.join(repository, "crates", program)
+    shutil.rmtree(os.path.join(folder, "data"), ignore_errors=True)
+    for name, (given, _) in files.items():
+        store(os.path.join(folder, "data", name), given)
+        print(f"{program}, {name}: {len(given)} bytes")
+    store(os.path.join(folder, "args"), "".join(f"{name}\n" for name in files).encode())
+    store(os.path.join(folder, "stdout"), b"".join(expected for _, expected in files.values()))
+
+
+def called_lines(name):
+    """What the test program reads of a file, and what it must print of it."""
     given, expected = "", ""
-    for call in programs.PROGRAMS[program]:
+    for call in programs.FILES[name]:
         cases = list(CASES[call]())
         asked, answered = programs.lines(call, cases)
         assert len(set(asked.split("\n"))) == len(cases) + 1, f"{call}: a case twice"
         print(f"{call}: {len(cases)} cases")
         given, expected = given + asked, expected + answered
-    assert len(given) <= 65_536, "the program reads no more"
-    return given, expected
+    assert len(given) < 65_536, "the program takes no longer file"
+    return given.encode(), expected.encode()
 
 
 def main():
     repository = needs.arguments(__doc__).parse_args().repository
-    for program in programs.PROGRAMS:
-        given, expected = called_lines(program)
-        store(repository, program, "stdin", given.encode())
-        store(repository, program, "stdout", expected.encode())
-        print(f"{program}: {len(given)} bytes")
-    for program, record in CARD_INPUTS.items():
-        store(repository, program, "stdin", record)
-        store(repository, program, "stdout", peer.card_text(record))
-        print(f"{program}: {len(record)} bytes")
+    store_files(repository, programs.PROGRAM, {name: called_lines(name) for name in programs.FILES})
+    store_files(repository, "cards", {name: (record, peer.text_lines(record)) for name, record in CARD_FILES.items()})
+    store(os.path.join(repository, "crates/card/stdin"), g)
+    store(os.path.join(repository, "crates/card/stdout"), peer.text_lines(g))
 
 
 if __name__ == "__main__":

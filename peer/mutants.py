@@ -1,6 +1,6 @@
 """mutants.py [--list] [--jobs N] [NAME..]
 
-Holds the stored cases to peer.py: each of its sentences is made wrong, one at a time, and some stored case of a test program must then be
+Holds the stored cases to peer.py: each of its sentences is made wrong, one at a time, and some stored case of the test program must then be
 answered otherwise. A mutant that every case answers as before is a missing case, or says the same in other words: those that do are named
 in SAME below, each with its reason. NAME: a function of peer.py, whose mutants alone are tried. Takes half an hour on two cores. Ends with
 status 1 where a mutant lives, and prints it.
@@ -258,7 +258,7 @@ def mutants(names):
 
 
 def calls_of(source):
-    """CALLS of programs.py and card_text, over that source of peer.py."""
+    """CALLS of programs.py and text_lines, over that source of peer.py."""
     peer = types.ModuleType("peer")
     programs = types.ModuleType("programs")
     kept = sys.modules.get("peer")

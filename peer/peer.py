@@ -726,7 +726,7 @@ def refusal_text(refusal):
     return b"REFUSED %d\n" % refusal
 
 
-def card_text(record):
+def text_lines(record):
     """What the program `card` prints for the bytes it reads."""
     refusal, panel = decode(record)
     return refusal_text(refusal) if refusal else card(panel)

@@ -1,4 +1,4 @@
-"""What the test programs over test_run read and must print, by peer.py: for a case the line of `stdin` and the line of `stdout`, after the
+"""What the test program reads and must print, by peer.py: for a case the line of a file of test_calls/data and the line of `stdout`, after the
 word of its call. Below the line of a written card or refusal stand its own lines, as they are in the lent space; below that of an accepted
 raw panel what each call answers."""
 import peer
@@ -14,7 +14,7 @@ def word(record):
 
 
 def panel_of(record):
-    """The panel that the programs hand on: BLANK where the record is refused."""
+    """The panel that the program hands on: BLANK where the record is refused."""
     return peer.decode(record)[1]
 
 
@@ -199,7 +199,7 @@ def card_line(record, space, text):
 
 
 def card_answer(record, space, text):
-    return written_answer(peer.card_call(record, space)[0], text, peer.card_text(record))
+    return written_answer(peer.card_call(record, space)[0], text, peer.text_lines(record))
 
 
 def refusal_line(number, space, text):
@@ -265,7 +265,7 @@ def planing_answer(record, text):
 
 
 # ---------------------------------------------------------------- Raw panels
-# A raw panel gives every number of a panel and both arrays whole, at fixed places. It is not of the paper, but the programs' own: that a
+# A raw panel gives every number of a panel and both arrays whole, at fixed places. It is not of the paper, but the program's own: that a
 # call takes a panel of any numbers, and looks at no unused place, is what it asks.
 
 RAW = 59                # bytes
@@ -308,13 +308,13 @@ def raw_word(data):
 
 
 def refusals(panel, minute):
-    """Of every open call that takes a panel, in the order in which the programs print them."""
+    """Of every open call that takes a panel, in the order in which the program prints them."""
     own, asked = peer.panel_refusal(panel), asked_refusal(panel, minute)
     (answer, _), (answer_none, number_none) = written(panel, SPACE)[0], written(panel, 0)[0]
     assert (answer == "refused") == bool(own) and answer_none == "refused", panel
-    return [own, own, own, compared_refusal(panel, peer.G), compared_refusal(peer.G, panel),  # limits: two checks, section, same_build twice
+    return [own, own, own, compared_refusal(panel, peer.G), compared_refusal(peer.G, panel),  # limits: two checks, section; same_build twice
             own, own,                                                                      # layers: ei_sum, ei
-            asked, asked, asked, asked, filled(panel, ENTRIES)[0], filled(panel, 0)[0],     # charring: asked, its three calls, depth_table
+            asked, asked, asked, asked, filled(panel, ENTRIES)[0], filled(panel, 0)[0],     # asked; of phases its three calls, depth_table
             own, peer.time_answer(panel)[0], peer.reserve(panel, minute)[0],               # load: load_minute, load_time, reserve
             peer.load_grade(panel)[0], peer.ei_grade(panel)[0], peer.rei_grade(panel)[0],  # ratings
             peer.planing(panel)[0], own, number_none]                                      # planing; write with room and with none
@@ -394,28 +394,30 @@ def start_answer(data, text):
     return f"{peer.t_ch(raw_panel(data))} {text}"
 
 
-# the program: the word of the call: (what follows it in stdin, what follows it in stdout)
-PROGRAMS = {
-    "test_records": {
+PROGRAM = "test_calls"
+
+# the file: the word of the call: (what follows it in the file, what follows it in stdout)
+FILES = {
+    "records": {
         "read": (read_line, read_answer),
         "write": (write_line, write_answer),
         "build": (build_line, build_answer),
     },
-    "test_sections": {
+    "sections": {
         "section": (section_line, section_answer),
         "carried": (section_line, carried_answer),
     },
-    "test_charring": {
+    "charring": {
         "char": (char_line, char_answer),
         "table": (table_line, table_answer),
     },
-    "test_layers": {
+    "layers": {
         "time": (time_line, time_answer),
         "sum": (sum_line, sum_answer),
         "grade": (grade_line, grade_answer),
         "rei": (rei_line, rei_answer),
     },
-    "test_cards": {
+    "cards": {
         "card": (card_line, card_answer),
         "refusal": (refusal_line, refusal_answer),
         "load": (load_line, load_answer),
@@ -425,21 +427,17 @@ PROGRAMS = {
         "eigrade": (panel_grade_line, panel_grade_answer(peer.ei_grade)),
         "reigrade": (panel_grade_line, panel_grade_answer(peer.rei_grade)),
     },
-    "test_planing": {
+    "planing": {
         "planing": (planing_line, planing_answer),
     },
-    "test_panels": {
+    "panels": {
         "panel": (panel_line, panel_answer),
         "each": (each_line, each_answer),
         "pair": (pair_line, pair_answer),
         "start": (start_line, start_answer),
     },
 }
-CALLS = {call: pair for calls in PROGRAMS.values() for call, pair in calls.items()}
-
-
-def program_of(call):
-    return next(name for name, calls in PROGRAMS.items() if call in calls)
+CALLS = {call: pair for calls in FILES.values() for call, pair in calls.items()}
 
 
 def asked(call, case):
@@ -451,5 +449,5 @@ def answered(call, case):
 
 
 def lines(call, cases):
-    """The text of stdin and of stdout for the cases of one call."""
+    """What is read and what must be printed for the cases of one call."""
     return "".join(asked(call, case) for case in cases), "".join(answered(call, case) for case in cases)

@@ -1,9 +1,10 @@
 """try_reads.py REPOSITORY
 
-Tries on the proved programs what no contract says of standard input and output: where a read or a write fails, a program says so in one
-line on standard error and ends with status 1, and after a failed read it prints nothing; else it prints what peer.py says, of a refused
-record too, with nothing on standard error and status 0. The programs are `card` (crates/card/out), `test_cards` (crates/test_cards/out)
-with the reads that fail, and c/example.c, where target/staticlib/libcard_c.a (by tools/staticlib.sh) and cc are there.
+Tries on the proved programs what no contract says of files, standard input and standard output: where one cannot be opened or read, or a
+write fails, a program says so in one line on standard error and ends with status 1, and of an input that it could not read it prints nothing;
+else it prints what peer.py says, of a refused record too, with nothing on standard error and status 0. The programs are `card`
+(crates/card/out), `cards` with files, `test_calls` with files and with the reads that fail, and c/example.c, where
+target/staticlib/libcard_c.a (by tools/staticlib.sh) and cc are there.
 Prints a line for each case. Ends with status 1 where a program does otherwise, and prints what it did; and where something is missing, and
 says what.
 """
@@ -19,6 +20,7 @@ from contextlib import contextmanager, nullcontext
 
 import needs
 import peer
+import programs
 
 SECONDS = 20  # more than any program takes
 PAUSE = 0.01  # before each piece that is written into a pipe
@@ -112,14 +114,43 @@ def failed_writes():
             ("a pipe without reader", pipe_without_reader())]
 
 
+# ---------------------------------------------------------------- Files
+
+
+@contextmanager
+def folder_of(files):
+    """A folder with these files, the contents by their names."""
+    with tempfile.TemporaryDirectory() as folder:
+        for name, contents in files.items():
+            with open(os.path.join(folder, name), "wb") as file:
+                file.write(contents)
+        os.mkdir(os.path.join(folder, "folder"))
+        yield folder
+
+
+def file_lists(names):
+    """(what, the arguments, how many of them are answered before one cannot be opened or read)"""
+    first, second = names
+    return [("one file", [first], 1),
+            ("two files", [first, second], 2),
+            ("the same file twice", [second, second], 2),
+            ("a file that is not there", ["missing"], 0),
+            ("a folder as a file", ["folder"], 0),
+            ("a file below a file", [f"{first}/{second}"], 0),
+            ("an empty name", [""], 0),
+            ("a file that is not there after another, and before one", [first, "missing", second], 1),
+            ("a folder after two files", [second, first, "folder"], 2)]
+
+
 # ---------------------------------------------------------------- Runs
 
 
-def ran(program, reads_from, writes_to=subprocess.PIPE, as_started=False):
+def ran(program, reads_from, writes_to=subprocess.PIPE, as_started=False, arguments=(), folder=None):
     """(status, standard output, standard error) of a program; status None where it does not end. A write into a pipe without reader raises
     a signal. The program begins with that ignored, so that the write fails; not where it begins as a shell starts it."""
     shut = [place for place, descriptor in enumerate((reads_from, writes_to)) if descriptor is None]
-    process = subprocess.Popen([program], stdin=reads_from, stdout=writes_to, stderr=subprocess.PIPE, restore_signals=as_started,
+    process = subprocess.Popen([program, *arguments], stdin=reads_from, stdout=writes_to, stderr=subprocess.PIPE, cwd=folder,
+                               restore_signals=as_started,
                                preexec_fn=(lambda: [os.close(place) for place in shut]) if shut else None)
     try:
         said, wrong = process.communicate(timeout=SECONDS)
@@ -134,9 +165,10 @@ def is_line(text):
     return len(text) > 1 and text.find(b"\n") == len(text) - 1
 
 
-def has_failed(result):
+def has_failed(result, before=b""):
+    """Of inputs before the one that failed, what is said of them is printed."""
     status, said, wrong = result
-    return status == 1 and said == b"" and is_line(wrong)
+    return status == 1 and said == before and is_line(wrong)
 
 
 class Tried:
@@ -162,7 +194,7 @@ def try_all(tried, program, g, refused):
     for what, stdin, record in reads(g, refused):
         with stdin as descriptor:
             result = ran(program, descriptor)
-        tried.case(program, what, result, result == (0, peer.card_text(record), b""))
+        tried.case(program, what, result, result == (0, peer.text_lines(record), b""))
     try_failed_reads(tried, program, g)
     for what, stdout in failed_writes():
         with file_of(g) as descriptor, stdout as taker:
@@ -170,10 +202,39 @@ def try_all(tried, program, g, refused):
         tried.case(program, what, result, has_failed(result))
 
 
+def try_files(tried, program, files):
+    """`files`: by their names, what is in two files and what is printed of it."""
+    with folder_of({name: contents for name, (contents, _) in files.items()}) as folder:
+        for what, paths, good in file_lists(list(files)):
+            result = ran(program, subprocess.DEVNULL, arguments=paths, folder=folder)
+            printed = b"".join(files[path][1] for path in paths[:good])
+            tried.case(program, what, result, result == (0, printed, b"") if good == len(paths) else has_failed(result, printed))
+        for what, stdout in failed_writes():
+            with stdout as taker:
+                result = ran(program, subprocess.DEVNULL, taker, arguments=list(files), folder=folder)
+            tried.case(program, f"{what}, with files", result, has_failed(result))
+
+
+def try_lengths(tried, program):
+    """The test program takes less than 64 KiB at a time, from a file and from standard input."""
+    for length, as_said in ((65_535, lambda result: result[0] == 0 and is_line(result[1]) and result[2] == b""), (65_536, has_failed),
+                            (100_000, has_failed)):
+        text = b"x" * length
+        with folder_of({"text": text}) as folder, file_of(text) as descriptor:
+            for where, result in (("a file", ran(program, subprocess.DEVNULL, arguments=["text"], folder=folder)),
+                                  ("standard input", ran(program, descriptor))):
+                tried.case(program, f"{length} bytes, {where}", result, as_said(result))
+
+
 def try_signal(tried, program, g, as_said):
     with file_of(g) as descriptor, pipe_without_reader() as taker:
         result = ran(program, descriptor, taker, as_started=True)
     tried.case(program, "a pipe without reader, as a shell starts it", result, as_said(result))
+
+
+def lines(call, *cases):
+    """What the test program reads and prints for cases of a call."""
+    return tuple(text.encode() for text in programs.lines(call, cases))
 
 
 def example_in_c(repository):
@@ -188,25 +249,28 @@ def example_in_c(repository):
     return path
 
 
-def stored(repository, program):
-    with open(os.path.join(repository, "crates", program, "stdin"), "rb") as file:
+def stored(repository, path):
+    with open(os.path.join(repository, "crates", path), "rb") as file:
         return file.read()
 
 
 def built(repository, program):
     path = os.path.join(repository, "crates", program, "out", program)
-    needs.made(path, f"(cd crates/{program} && rt run < stdin)")
+    needs.made(path, f"(cd crates/{program} && rt run < /dev/null)")
     return os.path.abspath(path)
 
 
 def main():
     repository = needs.arguments(__doc__).parse_args().repository
-    g, refused = stored(repository, "card"), stored(repository, "card_refused")
-    card, test_cards, example = built(repository, "card"), built(repository, "test_cards"), example_in_c(repository)
+    g, refused = stored(repository, "card/stdin"), stored(repository, "cards/data/refused")
+    (card, cards, test_calls), example = (built(repository, program) for program in ("card", "cards", "test_calls")), example_in_c(repository)
     tried = Tried()
     try_all(tried, card, g, refused)
     try_signal(tried, card, g, has_failed)
-    try_failed_reads(tried, test_cards, g)
+    try_files(tried, cards, {name: (record, peer.text_lines(record)) for name, record in (("g", g), ("refused", refused))})
+    try_failed_reads(tried, test_calls, g)
+    try_files(tried, test_calls, {"grade": lines("grade", (60, "text")), "two": lines("rei", (90, 60, "a"), (361, 0, "b"))})
+    try_lengths(tried, test_calls)
     if example is None:
         print("the example in C: not tried, for want of target/staticlib/libcard_c.a (`bash tools/staticlib.sh`) or cc")
     else:

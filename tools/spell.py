@@ -22,7 +22,7 @@ CHOSEN = {
     "T-either": "IsTrue-either",
     "T_true": "IsTrue-true",
     "T_false": "IsTrue-false",
-    "cardText": "text_of_card",  # card_text is a crate
+    "cardText": "text_of_card",  # text_lines is a crate
     "boardCount": "count_of_boards",  # board_count and lamella_count are fields of a struct
     "lamellaCount": "count_of_lamellae",
 }

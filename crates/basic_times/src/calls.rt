@@ -1,14 +1,14 @@
 // The open call of this crate: the basic time at a bare thickness in tenths of mm. It asks nothing of its caller.
 ghost use Rattle.std.specs.Prelude.{◌≡◌};
-ghost use Rattle.limits.specs.Numbers.{by_number, line_number};
+ghost use Rattle.refusals.specs.Numbers.{by_number, line_number};
 ghost use Rattle.basic_times.specs.Answers.{bare_line, time_answer};
 
 use crate::Role;
 use crate::times::time_at;
-use limits::refusal::Refusal;
-use limits::table::refuse_if;
 use panel::Material;
 use panel::materials::bad_thickness;
+use refusals::refusal::Refusal;
+use refusals::table::refuse_if;
 
 fn bare_line(m: Material) -> Refusal
     ensures { line_number result ≡ bare_line m }

@@ -1,5 +1,5 @@
 // Basic protection and insulation times of gypsum, solid wood, OSB and particle board (documents 01, "Layer times", and 02): constant
-// tables with one entry for each tenth of mm allowed, each proved to be the largest number that keeps to its rule.
+// tables with one entry for each tenth of mm allowed, each proved to be the largest number that keeps to its rule. The open call is in `calls`.
 #![tactic(auto)]
 
 pub mod calls;

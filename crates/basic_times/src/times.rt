@@ -21,7 +21,7 @@ pub(crate) struct Table {
 }
 
 impl Table {
-    // No open call: a layer of the material must be allowed the thickness, which is kept as it is, here and in `time_at` and what layers asks
+    // A layer of the material must be allowed the thickness, which is kept as it is, here and in `time_at` and what layers asks
     // of a lamella: a thickness is a raw number of the panel, and of an accepted one `Keeps` says it.
     fn at(self, h: u16) -> u32
         requires { ThicknessKeeps self.material h }
@@ -31,7 +31,7 @@ impl Table {
     }
 }
 
-// No open call: a layer of the material must be allowed the thickness, in tenths of mm. The two are kept as they are: see `bad_thickness`.
+// A layer of the material must be allowed the thickness, in tenths of mm. The two are kept as they are: see `bad_thickness`.
 // So are the arms, each of which reads its own table: a function that picks a `Table` was tried, and that what it answers keeps its rule was
 // not proved without an answer that names tables.
 pub fn time_at(role: Role, m: Material, h: u16) -> u32

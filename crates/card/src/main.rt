@@ -1,4 +1,3 @@
-// One of seven programs `card`, which stays as it is: `rt ci` holds a program to one stored input.
 // Prints the card of the record on standard input, or `REFUSED` and its number. Its stored input is panel G.
 #![tactic(auto)]
 

@@ -5,7 +5,7 @@ use mathlib.Core.List.{List}
 use native.Mathlib.Omega.{arith}
 use lib.IntN.{pos}
 use lib.ListN.{length}
-use Rattle.limits.specs.Lines.{Line, answer}
+use Rattle.refusals.specs.Lines.{Line, answer}
 use Rattle.std.specs.Prelude.{Ok, Err}
 use Rattle.fire_card.specs.Card.{card_most}
 use Rattle.fire_card.specs.Answers.{text_refusal, text_answer}

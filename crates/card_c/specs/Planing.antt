@@ -1,6 +1,6 @@
 -- The least cut of the panel that stands in a record, and as one number, for programs in C.
 use Rattle.std.specs.Prelude.{ℕ, ◌+◌, ◌*◌, List, ℤ, pos, neg_ℤ, Option, Some, None, Result, Ok, Err}
-use Rattle.limits.specs.Lines.{unless_refused}
+use Rattle.refusals.specs.Lines.{unless_refused}
 use Rattle.planing.specs.declared.Cut.{Cut}
 use Rattle.record.specs.Layouts.{panel_of}
 use Rattle.record.specs.Refusals.{record_refusal}

@@ -3,15 +3,15 @@
 #![tactic(auto)]
 
 ghost use Rattle.std.specs.Prelude.{◌≡◌};
-ghost use Rattle.limits.specs.Numbers.{by_number};
+ghost use Rattle.refusals.specs.Numbers.{by_number};
 ghost use Rattle.fire_card.specs.Answers.{card_answer, card_after, refusal_answer, refusal_after};
 ghost use Rattle.card_c.specs.Exported.{exported, Short};
 ghost use Rattle.card_c.specs.Planing.{record_planing, exported_cut};
 ghost use Rattle.card_c.specs.Version.{last_request};
 
-use limits::refusal::Refusal;
 use planing::Cut;
 use planing::search::least_cut;
+use refusals::refusal::Refusal;
 
 // Document 01 is followed with the requests of document 02 from the first to this one.
 const LAST_REQUEST: u32 = 7;
@@ -23,7 +23,7 @@ pub fn yurbantse_version() -> u32
     LAST_REQUEST
 }
 
-// An answer as one number. No open call: the bytes written must be those of a card at most. The number and its cast are kept as they are: C
+// An answer as one number. The bytes written must be those of a card at most. The number and its cast are kept as they are: C
 // is answered one `int32_t`, which holds the bytes by what is required; `try_from` would add a branch that never runs.
 fn number_of(answer: Result<usize, Refusal>) -> i32
     requires { Short (by_number answer) }
@@ -53,7 +53,7 @@ pub fn yurbantse_refusal(n: u8, out: &mut [u8]) -> i32
 }
 
 // The least cut of the panel that stands in a record.
-#[tactic(auto, using(limits::proofs::FirstLine::handed_on, limits::proofs::FirstLine::worked_out), unfolding(crate::specs::Planing::record_planing, record::specs::Answers::decode))]
+#[tactic(auto, using(refusals::proofs::FirstLine::handed_on, refusals::proofs::FirstLine::worked_out), unfolding(crate::specs::Planing::record_planing, record::specs::Answers::decode))]
 fn planing_of(bytes: &[u8]) -> Result<Option<Cut>, Refusal>
     ensures { by_number result ≡ record_planing bytes.now }
 {

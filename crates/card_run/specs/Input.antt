@@ -2,7 +2,6 @@
 use Rattle.std.specs.Prelude.{ℕ, ◌≡◌, List, take}
 use Rattle.fire_card.specs.Printed.{printed_text}
 
--- whatever the input is of which these bytes are the first that fit into so much room, what is printed for them is what is printed for
--- the whole of it
-abbrev pub SpeaksForAll : ℕ → List ℕ → Type 0
-SpeaksForAll room bytes = (input : List ℕ) → bytes ≡ take room input → printed_text bytes ≡ printed_text input
+-- what is printed for these bytes is what is printed for the whole of any input that begins with them, as many as there is room for
+abbrev pub PrintsAsWhole : ℕ → List ℕ → Type 0
+PrintsAsWhole room bytes = (input : List ℕ) → bytes ≡ take room input → printed_text bytes ≡ printed_text input

@@ -1,19 +1,17 @@
-// The whole of the program `card`: one record on standard input, its card or `REFUSED n` on standard output, and status 0. Where a read or
-// the write fails: a line on standard error, and status 1. The programs that only differ in their stored input share it.
+// What the program `card` and its sibling `cards` share: of one input, the card of the record in it or `REFUSED n` on standard output, and
+// the line on standard error where a read or the write fails.
 #![tactic(auto)]
-
-pub mod texts;
 
 ghost use Rattle.std.specs.Prelude.{◌≡◌, IfOk, IfSome};
 ghost use Rattle.fire_card.specs.Printed.{printed_text};
-ghost use Rattle.card_run.specs.Input.{SpeaksForAll};
+ghost use Rattle.card_run.specs.Input.{PrintsAsWhole};
 
 use fire_card::CARD_MOST;
+use fire_card::printed::text_for;
 use lent_input::read_full;
 use std::io;
 use std::io::Read;
 use std::process::ExitCode;
-use texts::text_for;
 
 // One byte more than the longest record has, and some to spare.
 const ROOM: usize = 64;
@@ -21,35 +19,48 @@ const ROOM: usize = 64;
 // What of the input fits into the space, which has room for one byte more than the longest record: so what is printed for the bytes read is
 // what is printed for the whole input, and for all that was left in the reader, where std knows that. After a failed read there are none.
 fn read_input<'a, R: Read>(input: &mut R, space: &'a mut [u8; ROOM]) -> io::Result<&'a [u8]>
-    ensures any { IfOk result (λ read. SpeaksForAll ROOM read.now) }
+    ensures any { IfOk result (λ read. PrintsAsWhole ROOM read.now) }
     ensures left { IfOk result (λ read. IfSome (R.remaining input.old) (λ left. printed_text read.now ≡ printed_text left)) }
 {
     read_full(input, space)
 }
 
-// Hands a text to standard output. No open call: the text must be what is printed for the bytes.
+// Hands a text to standard output. The text must be what is printed for the bytes.
 fn print(rt: &impl Print, bytes: &[u8], text: &[u8]) -> io::Result<()>
     requires { text.now ≡ printed_text bytes.now }
 {
     rt.write_all(text)
 }
 
-// Says on standard error what failed and why, and gives the status. Where that takes nothing either, the status alone says it.
-fn failed(rt: &impl Eprint, what: &str, error: io::Error) -> ExitCode {
-    let _ = eprintln!(rt; "card: {what}: {error}");
+// Says on standard error what was not read, and why, and gives the status. Where that takes nothing either, the status alone says it.
+pub fn unread(rt: &impl Eprint, what: &str, error: io::Error) -> ExitCode {
+    let _ = eprintln!(rt; "card: {what} could not be read: {error}");
     ExitCode::FAILURE
 }
 
-pub fn run(rt: &(impl Input + Print + Eprint)) -> ExitCode {
+// The same where standard output took not all of the text.
+fn unwritten(rt: &impl Eprint, error: io::Error) -> ExitCode {
+    let _ = eprintln!(rt; "card: standard output took not all of the text: {error}");
+    ExitCode::FAILURE
+}
+
+// Prints the card of the record that an input holds, or its refusal; where a read or the write fails, the line, which calls the input by its
+// name, and the status that says so.
+pub fn print_card<R: Read>(
+    rt: &(impl Print + Eprint),
+    name: &str,
+    input: &mut R,
+) -> Result<(), ExitCode> {
     let mut bytes = [0u8; ROOM];
-    let record = match read_input(&mut rt.reader(), &mut bytes) {
-        Ok(record) => record,
-        Err(error) => return failed(rt, "standard input could not be read", error),
-    };
+    let record = read_input(input, &mut bytes).map_err(|error| unread(rt, name, error))?;
     let mut space = [0u8; CARD_MOST];
     let text = text_for(record, &mut space);
-    match print(rt, record, text) {
-        Ok(()) => ExitCode::SUCCESS,
-        Err(error) => failed(rt, "standard output took not all of the text", error),
-    }
+    print(rt, record, text).map_err(|error| unwritten(rt, error))
+}
+
+// The whole of the program `card`.
+pub fn run(rt: &(impl Input + Print + Eprint)) -> ExitCode {
+    print_card(rt, "standard input", &mut rt.reader())
+        .err()
+        .unwrap_or(ExitCode::SUCCESS)
 }

@@ -4,10 +4,10 @@ use Rattle.numbers.specs.Largest.{largest}
 use Rattle.panel.specs.Lamellae.{lamellae_of, thickness}
 use Rattle.section.specs.Sections.{counted_from, total, lowest, highest, section_of}
 use Rattle.section.specs.Tests.{carries}
-use Rattle.limits.specs.Causes.{some}
-use Rattle.limits.specs.Refusals.{panel_refusal}
-use Rattle.charring.specs.Fires.{failure_of, k2, clad, lines_from, bond_lines, line_end, intact_end, passed_end, first_end}
-use Rattle.charring.specs.Stages.{stretches, way, charred}
+use Rattle.refusals.specs.Causes.{some}
+use Rattle.refusals.specs.Refusals.{panel_refusal}
+use Rattle.charring.specs.Rates.{failure_of, k2, clad, lines_from, bond_lines, line_end, intact_end, passed_end, first_end}
+use Rattle.charring.specs.Way.{stretches, way, charred}
 use Rattle.charring.specs.Depths.{char_at, effective_at}
 use Rattle.load.specs.LoadMinute.{every_from, time_test}
 use Rattle.load.specs.FailureTests.{fails_right_after}

@@ -4,14 +4,14 @@ use Rattle.panel.specs.Lamellae.{lamellae_of, thickness}
 use Rattle.section.specs.Sections.{counted_from, total, lowest, highest, section_of}
 use Rattle.section.specs.Tests.{carries}
 use Rattle.panel.specs.Boards.{material_of}
-use Rattle.limits.specs.Causes.{some}
-use Rattle.limits.specs.Refusals.{panel_refusal}
+use Rattle.refusals.specs.Causes.{some}
+use Rattle.refusals.specs.Refusals.{panel_refusal}
 use Rattle.record.specs.Layouts.{lamellae_in, panel_of}
 use Rattle.record.specs.Refusals.{record_refusal}
-use Rattle.charring.specs.Fires.{failure_of, k2, clad, lines_from, bond_lines, line_end, intact_end, passed_end, first_end}
-use Rattle.charring.specs.Stages.{stretches, way, charred}
+use Rattle.charring.specs.Rates.{failure_of, k2, clad, lines_from, bond_lines, line_end, intact_end, passed_end, first_end}
+use Rattle.charring.specs.Way.{stretches, way, charred}
 use Rattle.charring.specs.Depths.{char_at, effective_at}
-use Rattle.charring.specs.Phases.{phase_on, phase_at}
+use Rattle.phases.specs.Phases.{phase_on, phase_at}
 use Rattle.load.specs.LoadMinute.{every_from, time_test}
 use Rattle.load.specs.FailureTests.{fails_right_after}
 use Rattle.basic_times.specs.Rules.{largest_time}

@@ -12,14 +12,14 @@ use Rattle.numbers.specs.Least.{least}
 use Rattle.numbers.proofs.Booleans.{IsTrue-true, IsTrue-left, IsTrue-right}
 use Rattle.numbers.proofs.LeastKept.{least_is}
 use Rattle.panel.specs.declared.Panel.{Panel}
-use Rattle.limits.specs.Refusals.{panel_refusal, refusal_to12}
+use Rattle.refusals.specs.Refusals.{panel_refusal, refusal_before_section}
 use Rattle.load.specs.Lasting.{lasts}
 use Rattle.layers.specs.Layers.{printed_ei}
 use Rattle.ratings.specs.Answers.{rei_grade}
 use Rattle.planing.specs.declared.Cut.{Cut}
 use Rattle.planing.specs.Cuts.{cut_panel, allowed, lowers, lowered}
 use Rattle.planing.specs.Answers.{place_on, cut_behind, lowering, first_behind, most_cut, least_tenths, planing_if, planing_of}
-use Rattle.planing.proofs.CutPanels.{cut_to12}
+use Rattle.planing.proofs.CutPanels.{cut_before_section}
 use Rattle.planing.proofs.Lowering.{rei_is_grade, fails_lowered, lasting_by_ei}
 
 -- a panel has less than so many minutes
@@ -40,7 +40,7 @@ unfoldable pub planing_by : ℕ → Panel → Option Cut
 planing_by minutes p =
     planing_if (ltb (tenths_by minutes p) (suc most_cut)) (cut_behind p (tenths_by minutes p) (first_by minutes p (tenths_by minutes p)))
 
-lowered_by : (p q : Panel) → refusal_to12 q ≡ 0 → lowered (rei_grade p).minutes q ≡ less_than (rei_grade p).minutes q
+lowered_by : (p q : Panel) → refusal_before_section q ≡ 0 → lowered (rei_grade p).minutes q ≡ less_than (rei_grade p).minutes q
 lowered_by p q above = go (lasts q (rei_grade p).minutes) refl
   where
     go : (b : Bool) → lasts q (rei_grade p).minutes ≡ b → lowered (rei_grade p).minutes q ≡ (not b || ltb (printed_ei q) (rei_grade p).minutes)
@@ -55,7 +55,7 @@ module _ (p : Panel) (e : panel_refusal p ≡ 0) where
   same_test c = go (allowed p c) refl
     where
       go : (b : Bool) → allowed p c ≡ b → (b && lowers p c) ≡ (b && less_than g (cut_panel p c))
-      go true a = lowered_by p (cut_panel p c) (cut_to12 p c e a)
+      go true a = lowered_by p (cut_panel p c) (cut_before_section p c e a)
       go false a = refl
 
   same_first : (tenths : ℕ) → first_behind p tenths ≡ first_by g p tenths

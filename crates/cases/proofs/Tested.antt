@@ -3,27 +3,27 @@ use Prim.Native.Nat.{ℕ, zero, suc, ◌+◌, ◌*◌, ◌≤◌, ◌<◌}
 use mathlib.Core.Path.{◌≡◌, refl, sym, ap, ap₂, ◌∙◌}
 use mathlib.Core.List.{List, [], ◌∷◌, ◌++◌}
 use mathlib.Core.Bool.{Bool, true, false, not, ◌&&◌, ◌||◌}
-use mathlib.Core.Logic.{◌⊎◌, inl, inr, ⊎_elim}
+use mathlib.Core.Logic.{⊎_elim}
 use native.Mathlib.Omega.{arith}
 use borrow.Author.Tests.{lt-ltb}
 use lib.Dec.{T, leb, ltb, eqb, leb→le, ltb→lt, eqb→eq}
 use Rattle.std.specs.Prelude.{Option}
 use Rattle.planing.specs.declared.Cut.{Cut}
-use Rattle.numbers.proofs.Booleans.{IsTrue-true, IsTrue-false, IsTrue-left, IsTrue-right, not_both}
+use Rattle.numbers.proofs.Booleans.{IsTrue-true, IsTrue-false, IsTrue-left, IsTrue-right, not_both, IsTrue-either}
 use Rattle.panel.specs.declared.Panel.{Panel}
 use Rattle.numbers.proofs.LargestKept.{largest_greatest}
 use Rattle.panel.specs.Faces.{fires, least_of}
-use Rattle.limits.specs.Refusals.{panel_refusal}
+use Rattle.refusals.specs.Refusals.{panel_refusal}
 use Rattle.load.specs.LoadMinute.{time_test, whole_part, load_minute, load_seconds, minutes_in, seconds_over}
 use Rattle.load.specs.FailureTests.{fails_right_after}
 use Rattle.load.proofs.LoadMinutes.{whole_found}
 use Rattle.load.proofs.ExactFailure.{exact_failure}
-use Rattle.charring.specs.declared.Phase.{Phase}
-use Rattle.charring.specs.declared.Phase.TheVariants.{Untouched, UnderCladding, Fast, Settled}
-use Rattle.charring.specs.Phases.{phase_at}
+use Rattle.phases.specs.declared.Phase.{Phase}
+use Rattle.phases.specs.declared.Phase.TheVariants.{Untouched, UnderCladding, Fast, Settled}
+use Rattle.phases.specs.Phases.{phase_at}
 use Rattle.layers.specs.Layers.{printed_ei}
 use Rattle.grades.specs.Grades.{rei_of}
-use Rattle.cases.specs.Cases.{Case, gives, bears, lasts, failure_time, in_phase, rated, planed, Rated, Holds, EveryRowHolds}
+use Rattle.cases.specs.Cases.{Case, gives, bears, bears_for, failure_time, in_phase, rated, planed, Rated, Holds, EveryRowHolds}
 use Rattle.cases.proofs.Planed.{planing_by, planing_by_grade, answer_test, answer_found}
 
 -- phases are told apart by a number each
@@ -75,7 +75,7 @@ rated_test p r ei grade = bears_test p r && (eqb (printed_ei p) ei && eqb (rei_o
 abbrev pub test : Case → Bool
 test (gives worked said) = eqb worked said
 test (bears p m) = bears_test p m
-test (lasts p minutes seconds) = eqb (panel_refusal p) 0 && (ltb seconds 60 && last_in_one 60 (fires p) (60 * minutes + seconds))
+test (bears_for p minutes seconds) = eqb (panel_refusal p) 0 && (ltb seconds 60 && last_in_one 60 (fires p) (60 * minutes + seconds))
 test (failure_time p n q) = fails_right_after p n q
 test (in_phase p n q f) = eqb (phase_number (phase_at p n q)) (phase_number f)
 test (rated p r ei grade) = rated_test p r ei grade
@@ -85,10 +85,6 @@ test (planed p r ei grade answer) = rated_test p r ei grade && answer_test grade
 unfoldable pub agree : List Case → Bool
 agree [] = true
 agree (c ∷ cs) = test c && agree cs
-
-IsTrue-either : (a b : Bool) → T (a || b) → T a ⊎ T b
-IsTrue-either true b t = inl t
-IsTrue-either false b t = inr t
 
 module _ (unit : ℕ) (positive : 0 < unit) where
   -- the whole part of the failure time in a fire, by its definition
@@ -154,9 +150,9 @@ bears_tested p m t = (
   (least_part 1 (omega arith) (fires p) m (IsTrue-right (eqb (panel_refusal p) 0) (last_in_one 1 (fires p) m) t)).1,
 )
 
-lasts_tested : (p : Panel) (minutes seconds : ℕ) → T (test (lasts p minutes seconds)) → Holds (lasts p minutes seconds)
+bears_for_tested : (p : Panel) (minutes seconds : ℕ) → T (test (bears_for p minutes seconds)) → Holds (bears_for p minutes seconds)
 unfolding load_seconds
-lasts_tested p minutes seconds t =
+bears_for_tested p minutes seconds t =
     let more = IsTrue-right (eqb (panel_refusal p) 0) (ltb seconds 60 && last_in_one 60 (fires p) (60 * minutes + seconds)) t in
     let below = ltb→lt seconds 60 (IsTrue-left (ltb seconds 60) (last_in_one 60 (fires p) (60 * minutes + seconds)) more) in
     let e = (least_part 60 (omega arith) (fires p) (60 * minutes + seconds)
@@ -182,7 +178,7 @@ planed_tested p r ei grade answer t =
 pub tested : (c : Case) → T (test c) → Holds c
 tested (gives worked said) t = eqb→eq worked said t
 tested (bears p m) t = bears_tested p m t
-tested (lasts p minutes seconds) t = lasts_tested p minutes seconds t
+tested (bears_for p minutes seconds) t = bears_for_tested p minutes seconds t
 tested (failure_time p n q) t = exact_failure p n q t
 tested (in_phase p n q f) t = same_number (phase_at p n q) f (eqb→eq (phase_number (phase_at p n q)) (phase_number f) t)
 tested (rated p r ei grade) t = rated_tested p r ei grade t

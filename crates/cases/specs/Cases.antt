@@ -1,9 +1,9 @@
 -- Rows of worked cases: what a row says, and what it is for a table of rows to hold.
 use Rattle.std.specs.Prelude.{ℕ, ◌*◌, ◌≡◌, List, [], ◌∷◌, Bool, true, false, Option}
 use Rattle.panel.specs.declared.Panel.{Panel}
-use Rattle.limits.specs.Refusals.{panel_refusal}
-use Rattle.charring.specs.declared.Phase.{Phase}
-use Rattle.charring.specs.Phases.{phase_at}
+use Rattle.refusals.specs.Refusals.{panel_refusal}
+use Rattle.phases.specs.declared.Phase.{Phase}
+use Rattle.phases.specs.Phases.{phase_at}
 use Rattle.load.specs.Failure.{TimePasses, IsFailureTime}
 use Rattle.load.specs.LoadMinute.{printed_load, printed_load_seconds, minutes_in, seconds_over}
 use Rattle.layers.specs.Layers.{printed_ei}
@@ -17,7 +17,7 @@ pub data Case : Type 0 where
   -- a panel is accepted, and the load minute R that is printed for it is so many minutes
   bears : Panel → ℕ → Case
   -- a panel is accepted, and the time printed for it is so many minutes and seconds
-  lasts : Panel → ℕ → ℕ → Case
+  bears_for : Panel → ℕ → ℕ → Case
   -- in a fire, given as the panel that has it on its first face, the failure time is exactly n/q minutes
   failure_time : Panel → ℕ → ℕ → Case
   -- in such a fire the panel is in a phase at n/q minutes
@@ -34,7 +34,7 @@ Rated p r ei grade = (panel_refusal p ≡ 0) × ((printed_load p ≡ r) × ((pri
 abbrev pub Holds : Case → Type 0
 Holds (gives worked said) = worked ≡ said
 Holds (bears p m) = (panel_refusal p ≡ 0) × (printed_load p ≡ m)
-Holds (lasts p minutes seconds) =
+Holds (bears_for p minutes seconds) =
     (panel_refusal p ≡ 0) × ((minutes_in (printed_load_seconds p) ≡ minutes) × (seconds_over (printed_load_seconds p) ≡ seconds))
 Holds (failure_time p n q) = IsFailureTime (TimePasses p) n q
 Holds (in_phase p n q f) = phase_at p n q ≡ f

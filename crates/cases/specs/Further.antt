@@ -5,12 +5,12 @@ use Rattle.std.specs.Prelude.{ℕ, List, [], ◌∷◌, ◌++◌, Some, None}
 use Rattle.panel.specs.declared.Cladding.{Cladding}
 use Rattle.panel.specs.declared.Cladding.TheVariants.{Unclad, One, Two}
 use Rattle.panel.specs.declared.Panel.{Panel}
-use Rattle.panel.specs.Boards.{charring_start}
+use Rattle.panel.specs.Boards.{letter_a, letter_f, letter_o, letter_p, charring_start}
 use Rattle.panel.specs.Faces.{turned, shown}
 use Rattle.panel.specs.Lamellae.{Lamella, lamella}
 use Rattle.panel.specs.Worked.{panel_with, on_face, g, g_lamellae, board_of, board125}
-use Rattle.limits.specs.Refusals.{panel_refusal}
-use Rattle.charring.specs.declared.Phase.TheVariants.{Fast, Settled}
+use Rattle.refusals.specs.Refusals.{panel_refusal}
+use Rattle.phases.specs.declared.Phase.TheVariants.{Fast, Settled}
 use Rattle.panel.specs.declared.Material.TheVariants.{Osb, ParticleBoard}
 use Rattle.record.specs.Layouts.{panel_of}
 use Rattle.record.specs.Refusals.{record_refusal}
@@ -19,14 +19,14 @@ use Rattle.basic_times.specs.declared.Role.TheVariants.{Protection, Insulation}
 use Rattle.basic_times.specs.Rules.{basic_time}
 use Rattle.layers.specs.Layers.{ei_sum, printed_ei}
 use Rattle.planing.specs.declared.Cut.{Cut}
-use Rattle.cases.specs.Cases.{Case, gives, bears, lasts, failure_time, in_phase, rated, planed, hundredths, hundred_thousandths}
+use Rattle.cases.specs.Cases.{Case, gives, bears, bears_for, failure_time, in_phase, rated, planed, hundredths, hundred_thousandths}
 
 -- Panels
 
 -- document 000, A 1.2: 40-20-20-20-40 mm with falling bond behind type F 12.5 that fails at 55 min, β 63; f 240, no moment
 abbrev pub five : Panel
 five =
-    panel_with 1 63 0 240 0 55000 (One (board125 70))
+    panel_with 1 63 0 240 0 55000 (One (board125 letter_f))
     (lamella 1 400 ∷ lamella 0 200 ∷ lamella 1 200 ∷ lamella 0 200 ∷ lamella 1 400 ∷ [])
 
 -- one lamella 60 behind boards, β 65, f 240, no moment; gap, failure time and boards are open
@@ -35,23 +35,23 @@ one gap failure boards = panel_with 0 65 gap 240 0 failure boards (lamella 1 600
 
 -- G with M 3,000 behind one board of type F 12.5 that fails at 41 min
 abbrev pub g_behind_f : Panel
-g_behind_f = panel_with 0 65 0 240 3000 41000 (One (board125 70)) g_lamellae
+g_behind_f = panel_with 0 65 0 240 3000 41000 (One (board125 letter_f)) g_lamellae
 
 -- A 12.5 over A 15.0
 abbrev pub two_a : Panel
-two_a = one 0 0 (Two (board125 65) (board_of 65 150))
+two_a = one 0 0 (Two (board125 letter_a) (board_of letter_a 150))
 
 -- G at β 50 with no moment behind two boards of type F 25.0 that fail at 360 min
 abbrev pub g_lasting : Panel
-g_lasting = panel_with 0 50 0 240 0 360000 (Two (board_of 70 250) (board_of 70 250)) g_lamellae
+g_lasting = panel_with 0 50 0 240 0 360000 (Two (board_of letter_f 250) (board_of letter_f 250)) g_lamellae
 
 -- two F 12.5, t_f 80 min
 abbrev pub two_f : Panel
-two_f = one 0 80000 (Two (board125 70) (board125 70))
+two_f = one 0 80000 (Two (board125 letter_f) (board125 letter_f))
 
 -- A 9.0 over a wide gap
 abbrev pub wide_a : Panel
-wide_a = one 1 0 (One (board_of 65 90))
+wide_a = one 1 0 (One (board_of letter_a 90))
 
 -- the record of G with M 3,000 behind one wood-based board of coefficient 100: length 31, version 1, bond 0, rate 65, the gap, f 240,
 -- M 3,000, one board, time 0, the board's type and thickness, three lamellae
@@ -77,19 +77,19 @@ wall face =
 
 -- a floor, 20 mm along, 40 across, 40 along, behind one board of type F 12.5, β 80; f 240, M 1,000; bond and failure time are open
 abbrev pub floor : ℕ → ℕ → Panel
-floor bond failure = panel_with bond 80 0 240 1000 failure (One (board125 70)) (lamella 1 200 ∷ lamella 0 400 ∷ lamella 1 400 ∷ [])
+floor bond failure = panel_with bond 80 0 240 1000 failure (One (board125 letter_f)) (lamella 1 200 ∷ lamella 0 400 ∷ lamella 1 400 ∷ [])
 
 -- G with M 3,000 behind type F 9.0 over a wide gap that fails at 5 min: t_ch 2.2 min
 abbrev pub soon_failed : Panel
-soon_failed = panel_with 0 65 1 240 3000 5000 (One (board_of 70 90)) g_lamellae
+soon_failed = panel_with 0 65 1 240 3000 5000 (One (board_of letter_f 90)) g_lamellae
 
 -- G with M 3,000 behind two boards of type F, 9.0 over 25.0, that fail at 100 min
 abbrev pub thicker_inside : Panel
-thicker_inside = panel_with 0 65 0 240 3000 100000 (Two (board_of 70 90) (board_of 70 250)) g_lamellae
+thicker_inside = panel_with 0 65 0 240 3000 100000 (Two (board_of letter_f 90) (board_of letter_f 250)) g_lamellae
 
 -- a floor, 10 mm along, 10 across, 30 along, with falling bond behind type F 12.5 that fails at 41 min, β 80; f 240, M 100
 abbrev pub thin_floor : Panel
-thin_floor = panel_with 1 80 0 240 100 41000 (One (board125 70)) (lamella 1 100 ∷ lamella 0 100 ∷ lamella 1 300 ∷ [])
+thin_floor = panel_with 1 80 0 240 100 41000 (One (board125 letter_f)) (lamella 1 100 ∷ lamella 0 100 ∷ lamella 1 300 ∷ [])
 
 -- bare lamellae in record version 2, with the fire on a face; f 240, bond holds
 abbrev pub bare : ℕ → ℕ → ℕ → List Lamella → Panel
@@ -183,14 +183,14 @@ wood_board_rows =
     ∷ gives (basic_time Protection ParticleBoard 400) 7073
     ∷ gives (basic_time Insulation ParticleBoard 400) 5805
     -- they are accepted alone, from 20.0 to 40.0 mm and with no time given
-    ∷ gives (panel_refusal (one 0 0 (One (board_of 79 199)))) 8
-    ∷ gives (panel_refusal (one 0 0 (One (board_of 79 200)))) 0
-    ∷ gives (panel_refusal (one 0 0 (One (board_of 80 400)))) 0
-    ∷ gives (panel_refusal (one 0 0 (One (board_of 80 401)))) 8
-    ∷ gives (panel_refusal (one 0 1 (One (board_of 80 300)))) 9
-    ∷ gives (panel_refusal (one 0 0 (Two (board_of 79 200) (board_of 65 200)))) 7
-    ∷ gives (panel_refusal (one 0 0 (Two (board_of 65 200) (board_of 79 200)))) 7
-    ∷ gives (panel_refusal (one 0 0 (Two (board_of 80 200) (board_of 80 200)))) 7
+    ∷ gives (panel_refusal (one 0 0 (One (board_of letter_o 199)))) 8
+    ∷ gives (panel_refusal (one 0 0 (One (board_of letter_o 200)))) 0
+    ∷ gives (panel_refusal (one 0 0 (One (board_of letter_p 400)))) 0
+    ∷ gives (panel_refusal (one 0 0 (One (board_of letter_p 401)))) 8
+    ∷ gives (panel_refusal (one 0 1 (One (board_of letter_p 300)))) 9
+    ∷ gives (panel_refusal (one 0 0 (Two (board_of letter_o 200) (board_of letter_a 200)))) 7
+    ∷ gives (panel_refusal (one 0 0 (Two (board_of letter_a 200) (board_of letter_o 200)))) 7
+    ∷ gives (panel_refusal (one 0 0 (Two (board_of letter_p 200) (board_of letter_p 200)))) 7
     -- O 20.0: t_ch = t_f = 20/0.90 = 22.222 min, whatever the gap; 2β up to 25 mm, 25/1.3 min later
     ∷ gives (record_refusal behind_o) 0
     ∷ gives (charring_start 1 (panel_of behind_o).cladding) 22222
@@ -200,7 +200,7 @@ wood_board_rows =
     -- like G it fails as 74.4 mm no longer carry, that is at 67.4 mm of char, 42.4/0.65 min later
     ∷ bears (panel_of behind_o) 106
     ∷ failure_time (panel_of behind_o) 693443 6500
-    ∷ lasts (panel_of behind_o) 106 41
+    ∷ bears_for (panel_of behind_o) 106 41
     ∷ gives (ei_sum (panel_of behind_o)) 10068
     -- P 40.0: t_ch = t_f = 44.444 min, k0 full then; 25 mm at 63.675 min; fails at 67.4 mm of char
     ∷ gives (record_refusal behind_p) 0
@@ -222,15 +222,15 @@ fire_rows =
     ∷ gives (char_at (panel_of (wall 0)) 50 1) (hundredths 4500 1)
     ∷ bears (panel_of (wall 0)) 57
     ∷ failure_time (panel_of (wall 0)) 750 13
-    ∷ lasts (panel_of (wall 0)) 57 41
+    ∷ bears_for (panel_of (wall 0)) 57 41
     -- from its last: the first line is at 40 mm; it fails as 35.8 mm no longer carry, that is at 28.8 mm of char, after 28.8/0.65 min
     ∷ gives (char_at (turned (panel_of (wall 1))) 50 1) (hundredths 3250 1)
     ∷ bears (panel_of (wall 1)) 44
     ∷ failure_time (turned (panel_of (wall 1))) 576 13
-    ∷ lasts (panel_of (wall 1)) 44 18
+    ∷ bears_for (panel_of (wall 1)) 44 18
     -- from each alone: R is that of the last face, EI that of the first, and what is shown is that of the first
     ∷ bears (panel_of (wall 2)) 44
-    ∷ lasts (panel_of (wall 2)) 44 18
+    ∷ bears_for (panel_of (wall 2)) 44 18
     ∷ gives (ei_sum (panel_of (wall 2))) 8233
     ∷ gives (ei_sum (turned (panel_of (wall 2)))) 8881
     ∷ gives (printed_ei (panel_of (wall 0))) 82
@@ -239,17 +239,17 @@ fire_rows =
     ∷ gives (micrometres_at (shown (panel_of (wall 1))) 50 1) 32500
     ∷ gives (micrometres_at (shown (panel_of (wall 2))) 50 1) 45000
     -- G, M 3,000: 6,740/65 min are 103 min and 41.5 s
-    ∷ lasts (g 3000) 103 41
+    ∷ bears_for (g 3000) 103 41
     -- within the first minute the effective depth is 1 mm/min: M 42,000 is carried to 0.8 mm, which is 48 s exactly, and M 43,056 at depth 0
     -- alone
     ∷ bears (g 42000) 0
     ∷ failure_time (g 42000) 4 5
-    ∷ lasts (g 42000) 0 48
+    ∷ bears_for (g 42000) 0 48
     ∷ failure_time (g 43056) 0 1
-    ∷ lasts (g 43056) 0 0
+    ∷ bears_for (g 43056) 0 0
     -- t_ch 112 min, from there 0.55·0.50 mm/min: 68.2 mm of char and 75.2 mm of effective depth at 360 min, which leave 24.8 mm
     ∷ bears g_lasting 360
-    ∷ lasts g_lasting 360 0
+    ∷ bears_for g_lasting 360 0
     ∷ []
 
 unfoldable pub first_run_rows : List Case
@@ -268,7 +268,7 @@ first_run_rows =
     ∷ gives (char_at thicker_inside 90 1) (hundred_thousandths 815100 1)
     ∷ gives (char_at thicker_inside 100 1) (hundred_thousandths 1172600 1)
     ∷ bears thicker_inside 175
-    ∷ lasts thicker_inside 175 26
+    ∷ bears_for thicker_inside 175 26
     -- 12.4 mm at t_f, past the line at 10 mm: the next line, at 20 mm, is nearer than 10 + 25 mm and ends the run, after 7.6/1.6 min
     ∷ gives (char_at thin_floor 41 1) (hundredths 1240 1)
     ∷ in_phase thin_floor 41 1 (Fast 2000000)

@@ -1,10 +1,10 @@
 -- Document 01, "Panels worked through": "The starred are proved." One row for each number of a starred line.
 use Rattle.std.specs.Prelude.{List, [], ◌∷◌}
 use Rattle.panel.specs.declared.Cladding.TheVariants.{One, Two}
-use Rattle.panel.specs.Boards.{charring_start}
+use Rattle.panel.specs.Boards.{letter_a, letter_f, charring_start}
 use Rattle.panel.specs.Worked.{g, g_falling, recovers, one_behind_a, three_behind_a, board125}
 use Rattle.section.specs.Tests.{depth_passes}
-use Rattle.limits.specs.Refusals.{panel_refusal}
+use Rattle.refusals.specs.Refusals.{panel_refusal}
 use Rattle.charring.specs.Depths.{char_at}
 use Rattle.panel.specs.declared.Material.TheVariants.{Gypsum, Wood}
 use Rattle.basic_times.specs.declared.Role.TheVariants.{Protection, Insulation}
@@ -15,10 +15,10 @@ use Rattle.cases.specs.Cases.{Case, gives, bears, failure_time, passing, hundred
 unfoldable pub starred : List Case
 starred =
     -- "One board 12.5: t_ch 21,000; wide gap 12,000."
-    gives (charring_start 0 (One (board125 65))) 21000
-    ∷ gives (charring_start 1 (One (board125 65))) 12000
+    gives (charring_start 0 (One (board125 letter_a))) 21000
+    ∷ gives (charring_start 1 (One (board125 letter_a))) 12000
     -- "Two F 12.5: 49,000."
-    ∷ gives (charring_start 0 (Two (board125 70) (board125 70))) 49000
+    ∷ gives (charring_start 0 (Two (board125 letter_f) (board125 letter_f))) 49000
     -- "Type A 9.0, β 65, one lamella 60: 14.56 mm at 22.4 min. Type A 12.5: 37.85 mm at 60 min."
     ∷ gives (char_at (one_behind_a 90) 224 10) (hundredths 1456 10)
     ∷ gives (char_at (one_behind_a 125) 60 1) (hundredths 3785 1)

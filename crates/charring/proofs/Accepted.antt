@@ -11,13 +11,13 @@ use Rattle.panel.specs.declared.Cladding.TheVariants.{Unclad, One, Two}
 use Rattle.panel.specs.declared.Panel.{Panel}
 use Rattle.panel.specs.Boards.{wood_based, material_of, gap_loss, inner_gain, is_f, type_f, char_through, charring_start}
 use Rattle.panel.proofs.Thicknesses.{gypsum_else, thickest_most}
-use Rattle.panel.specs.Timber.{rate_of}
-use Rattle.limits.specs.Refusals.{panel_refusal}
+use Rattle.panel.specs.Product.{rate_of}
+use Rattle.refusals.specs.Refusals.{panel_refusal}
 use Rattle.limits.specs.Keeps.{TypesKeep, BoardKeeps, CladdingKeeps, Keeps}
 use Rattle.limits.proofs.Accepted.{accepted_keeps}
-use Rattle.charring.specs.Fires.{start_of, failure_of}
+use Rattle.charring.specs.Rates.{start_of, failure_of}
 use Rattle.charring.proofs.DepthLaws.{k2_bound}
-use Rattle.charring.specs.Fits.{FireFits}
+use Rattle.charring.specs.Fits.{CharringFits}
 use Rattle.numbers.proofs.Products.{times}
 
 loss_least : (gap : ℕ) → 14000 ≤ gap_loss gap
@@ -59,7 +59,7 @@ failure_within true start given k h = k refl
 failure_within false start given k h = (omega arith, omega arith)
 
 -- the limits that charring asks for are among those that a panel keeps
-pub fire_part : (p : Panel) → Keeps p → FireFits p
+pub fire_part : (p : Panel) → Keeps p → CharringFits p
 unfolding failure_of
 fire_part p k =
     let start = start_most p.gap p.cladding k.types k.boards in
@@ -75,7 +75,7 @@ fire_part p k =
       thick = k.section.thickness;
     }
 
-pub fire_fits : (p : Panel) → panel_refusal p ≡ 0 → FireFits p
+pub fire_fits : (p : Panel) → panel_refusal p ≡ 0 → CharringFits p
 fire_fits p e = fire_part p (accepted_keeps p e)
 
 -- and it chars

@@ -5,8 +5,8 @@ use native.Mathlib.Omega.{arith}
 use native.Mathlib.Nat.{min-le_right, mul-le-mul_left}
 use Rattle.panel.specs.declared.Panel.{Panel}
 use Rattle.panel.specs.Lamellae.{lamellae, thickness}
-use Rattle.charring.specs.Fires.{tenth, start_of, failure_of, plain_rate, back_face}
-use Rattle.charring.specs.Stages.{way}
+use Rattle.charring.specs.Rates.{tenth, start_of, failure_of, plain_rate, back_face}
+use Rattle.charring.specs.Way.{way}
 use Rattle.charring.specs.Depths.{under_at, after_at, char_at, full_at, effective_at, micrometres_at, tenths_at}
 use Rattle.charring.proofs.Rounding.{up_least}
 use Rattle.charring.proofs.WayLaws.{charred_none}

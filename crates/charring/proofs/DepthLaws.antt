@@ -7,13 +7,14 @@ use native.Mathlib.Decide.{dec_le}
 use Rattle.panel.specs.declared.Cladding.{Cladding}
 use Rattle.panel.specs.declared.Cladding.TheVariants.{Unclad, One, Two}
 use Rattle.panel.specs.declared.Panel.{Panel}
-use Rattle.panel.specs.Timber.{rate_of}
-use Rattle.charring.specs.Fires.{tenth, start_of, failure_of, k2, plain_rate, slow_rate, back_face}
-use Rattle.charring.specs.Stages.{way, charred}
+use Rattle.panel.specs.Product.{rate_of}
+use Rattle.charring.specs.Rates.{tenth, start_of, failure_of, k2, plain_rate, slow_rate, back_face}
+use Rattle.charring.specs.Way.{way, charred}
 use Rattle.charring.specs.Depths.{under_at, after_at, char_at, full_at, effective_at, micrometres_at, tenths_at}
-use Rattle.charring.proofs.Ramps.{Ramp, two_rates, same, times, steady, sum, multiple, lower, since, after, no_less, equal}
+use Rattle.charring.proofs.Ramps.{Ramp, same, times, steady, sum, multiple, lower, since, after, no_less, equal}
 use Rattle.charring.proofs.WayRamps.{shared, charred_ramp}
 use Rattle.charring.proofs.Rounding.{up_across}
+use Rattle.numbers.proofs.Products.{two_rates}
 
 -- Rates
 

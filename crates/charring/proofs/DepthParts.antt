@@ -6,8 +6,8 @@ use native.Mathlib.Omega.{arith}
 use native.Mathlib.Decide.{dec_le}
 use native.Mathlib.Nat.{mul-sub, mul-le-mul_left}
 use Rattle.panel.specs.declared.Panel.{Panel}
-use Rattle.charring.specs.Fires.{start_of, failure_of, plain_rate, slow_rate, back_face, depth_at_failure}
-use Rattle.charring.specs.Stages.{Stretch, way, charred, fast_part, settled_part}
+use Rattle.charring.specs.Rates.{start_of, failure_of, plain_rate, slow_rate, back_face, depth_at_failure}
+use Rattle.charring.specs.Way.{Stretch, way, charred, fast_part, settled_part}
 use Rattle.charring.specs.Depths.{under_at, after_at, char_at}
 use Rattle.charring.proofs.WayLaws.{Chain, last, next, way_chain, parts, parts_cover, charred_past}
 

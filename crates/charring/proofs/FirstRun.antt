@@ -8,8 +8,8 @@ use lib.Dec.{eqb, ltb}
 use borrow.Author.Tests.{eq-eqb, lt-ltb, le-ltb, ltb-true}
 use Rattle.numbers.specs.Choice.{pick}
 use Rattle.panel.specs.declared.Panel.{Panel}
-use Rattle.charring.specs.Fires.{fast_run, start_of, failure_of, plain_rate, clad, depth_at_failure}
-use Rattle.charring.specs.Fires.{line_end, bond_lines, intact_end, passed_end, first_end}
+use Rattle.charring.specs.Rates.{fast_run, start_of, failure_of, plain_rate, clad, depth_at_failure}
+use Rattle.charring.specs.Rates.{line_end, bond_lines, intact_end, passed_end, first_end}
 
 -- No line passed
 

@@ -4,7 +4,7 @@ use mathlib.Core.Path.{◌≡◌}
 use native.Mathlib.Omega.{arith}
 use native.Mathlib.Nat.{mul-pos, lt_of_mul-lt-mul_left}
 use Rattle.panel.specs.declared.Panel.{Panel}
-use Rattle.charring.specs.Fires.{tenth}
+use Rattle.charring.specs.Rates.{tenth}
 use Rattle.charring.specs.Depths.{round_up, full_at, effective_at, tenths_at}
 use Rattle.charring.proofs.Ramps.{Ramp}
 use Rattle.charring.proofs.Rounding.{up_covers, up_least}

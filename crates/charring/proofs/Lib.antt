@@ -8,20 +8,15 @@ pub mod DepthBounds
 pub mod DepthParts
 pub mod JustBefore
 pub mod Rising
--- Which phase it is, and the end of the first run.
-pub mod PhaseCases
+-- The end of the first run.
 pub mod FirstRun
 -- Accepted panels: their limits.
 pub mod Accepted
--- Unused places do not matter, and panels of the same build do not differ.
+-- Unused places do not matter.
 pub mod Unused
-pub mod SameBuild
 -- What the functions need.
 pub mod Numbers
 pub mod ByThickness
-pub mod Ways
-pub mod Onward
+pub mod WalkLaws
 pub mod PassedLines
 pub mod Minutes
-pub mod PhaseTests
-pub mod Replies

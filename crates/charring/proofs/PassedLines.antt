@@ -2,7 +2,7 @@
 use Prim.Native.Nat.{ℕ, ◌<◌, ◌≤◌}
 use mathlib.Core.Path.{◌≡◌, sym, ap, ◌∙◌}
 use mathlib.Core.List.{List, [], ◌∷◌}
-use Rattle.charring.specs.Fires.{passed_end, line_end}
+use Rattle.charring.specs.Rates.{passed_end, line_end}
 use Rattle.charring.proofs.FirstRun.{line_passed, line_ahead}
 
 module _ (deep end line r : ℕ) (all lines : List ℕ) (e : (all ≡ line ∷ lines) × (r ≡ line_end line lines)) where

@@ -2,31 +2,14 @@
 use Prim.Native.Nat.{ℕ, ◌+◌, ◌-◌, ◌*◌, ◌≤◌, min}
 use mathlib.Core.Path.{◌≡◌, sym, ap, ◌∙◌}
 use native.Mathlib.Omega.{arith}
-use native.Mathlib.Nat.{mul-sub, mul_comm, mul-le-mul_left, mul-le-mul_right, min-eq_left, min-eq_right}
-use native.Mathlib.Decide.{dec_le}
+use native.Mathlib.Nat.{mul-sub, mul_comm, mul-le-mul_left, mul-le-mul_right}
+use Rattle.numbers.proofs.Products.{mul_min}
 
 -- f n q is a quantity at n/q, times q: it depends on the fraction alone, never falls, and rises by at most c for each 1/q
 pub record Ramp (f : ℕ → ℕ → ℕ) (c : ℕ) : Type 0 where
   pub scaled : (k n q : ℕ) → f (k * n) (k * q) ≡ k * f n q
   pub rises : (n m q : ℕ) → n ≤ m → f n q ≤ f m q
   pub slow : (n m d q : ℕ) → m ≤ n + d → f m q ≤ f n q + c * d
-
--- a factor goes into `min`
-pub mul_min : (k a b : ℕ) → k * min a b ≡ min (k * a) (k * b)
-mul_min k a b = go (dec_le a b)
-  where
-    go : Dec (a ≤ b) → k * min a b ≡ min (k * a) (k * b)
-    go (yes h) = ap (λ (x : ℕ). k * x) (min-eq_left h) ∙ sym (min-eq_left (mul-le-mul_left k h))
-    go (no h) =
-        let l : b ≤ a = omega arith in
-        ap (λ (x : ℕ). k * x) (min-eq_right l) ∙ sym (min-eq_right (mul-le-mul_left k l))
-
--- two parts that together grow by at most e, one at the rate r and one at a rate c no lower, grow by at most c * e
-pub two_rates : (r c a b e : ℕ) → r ≤ c → a + b ≤ e → r * a + c * b ≤ c * e
-two_rates r c a b e h k =
-    let low : r * a ≤ c * a = mul-le-mul_right a h in
-    let all : c * (a + b) ≤ c * e = mul-le-mul_left c k in
-    omega arith
 
 -- a quantity that is the same at every time
 pub same : (f g : ℕ → ℕ → ℕ) (c : ℕ) → ((n q : ℕ) → g n q ≡ f n q) → Ramp f c → Ramp g c

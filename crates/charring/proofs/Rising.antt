@@ -7,10 +7,10 @@ use native.Mathlib.Omega.{arith}
 use native.Mathlib.Decide.{dec_lt}
 use native.Mathlib.Nat.{mul_comm, mul-pos, mul-le-mul_left, mul-lt-mul_of_pos_left, lt_of_mul-lt-mul_left, lt_of_mul-lt-mul_right, lt_of_lt_of_le}
 use Rattle.panel.specs.declared.Panel.{Panel}
-use Rattle.panel.specs.Timber.{rate_of}
+use Rattle.panel.specs.Product.{rate_of}
 use Rattle.panel.specs.Lamellae.{lamellae, thickness}
-use Rattle.charring.specs.Fires.{tenth, failure_of, plain_rate, back_face, depth_at_failure}
-use Rattle.charring.specs.Stages.{Stretch, way, charred, fast_part, settled_part}
+use Rattle.charring.specs.Rates.{tenth, failure_of, plain_rate, back_face, depth_at_failure}
+use Rattle.charring.specs.Way.{Stretch, way, charred, fast_part, settled_part}
 use Rattle.charring.specs.Depths.{under_at, after_at, char_at, full_at, effective_at, tenths_at}
 use Rattle.charring.proofs.Rounding.{up_covers}
 use Rattle.charring.proofs.WayRamps.{charred_ramp}

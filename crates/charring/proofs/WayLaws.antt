@@ -1,5 +1,5 @@
 -- A panel's way: its stretches follow each other from the depth at t_f to the back face.
-use Prim.Native.Nat.{ℕ, zero, suc, ◌+◌, ◌-◌, ◌*◌, ◌/◌, ◌≤◌, ◌<◌, min, max}
+use Prim.Native.Nat.{ℕ, ◌+◌, ◌-◌, ◌*◌, ◌/◌, ◌≤◌, ◌<◌, min, max}
 use mathlib.Core.Path.{◌≡◌, refl}
 use mathlib.Core.List.{List, [], ◌∷◌}
 use mathlib.Core.Bool.{Bool, true, false}
@@ -8,11 +8,11 @@ use lib.Dec.{ltb, eqb}
 use borrow.Author.Tests.{ltb-false}
 use Rattle.numbers.specs.Choice.{pick}
 use Rattle.panel.specs.declared.Panel.{Panel}
-use Rattle.panel.specs.Timber.{rate_of}
+use Rattle.panel.specs.Product.{rate_of}
 use Rattle.panel.specs.Lamellae.{Lamella, lamellae}
-use Rattle.charring.specs.Fires.{tenth, fast_run, start_of, failure_of, plain_rate, clad, back_face, depth_at_failure}
-use Rattle.charring.specs.Fires.{lines_from, bond_lines, line_end, intact_end, passed_end, first_end}
-use Rattle.charring.specs.Stages.{Stretch, stretches, way, charred, fast_part, settled_part}
+use Rattle.charring.specs.Rates.{tenth, fast_run, start_of, failure_of, plain_rate, clad, back_face, depth_at_failure}
+use Rattle.charring.specs.Rates.{lines_from, bond_lines, line_end, intact_end, passed_end, first_end}
+use Rattle.charring.specs.Way.{Stretch, stretches, way, charred, fast_part, settled_part}
 
 -- Depths that are whole hundred-thousandths of a mm
 
@@ -172,11 +172,6 @@ settled_part_to s h = numbers s.from s.end s.to h
   where
     numbers : (a e b : ℕ) → 0 < b - max a e → a ≤ b
     numbers a e b h = omega arith
-
--- a product that is not 0
-pub positive : (x q f : ℕ) → x < q * f → 0 < f
-positive x q zero h = omega arith
-positive x q (suc f) h = omega arith
 
 -- a whole stretch passed
 pub charred_past : (s : Stretch) (ss : List Stretch) (x q : ℕ) → q * fast_part s + 2 * q * settled_part s ≤ x

@@ -4,21 +4,22 @@ use mathlib.Core.Path.{◌≡◌}
 use mathlib.Core.List.{List, [], ◌∷◌}
 use native.Mathlib.Omega.{arith}
 use native.Mathlib.Nat.{mul-sub, mul-le-mul_left}
-use Rattle.charring.specs.Stages.{Stretch, charred, fast_part, settled_part}
-use Rattle.charring.proofs.Ramps.{Ramp, mul_min, two_rates, same, weaker, steady}
+use Rattle.charring.specs.Way.{Stretch, charred, fast_part, settled_part}
+use Rattle.charring.proofs.Ramps.{Ramp, same, weaker, steady}
+use Rattle.numbers.proofs.Products.{mul_min, two_rates}
 
--- a stage that takes b of x and deepens by `rate` for each of it, then g
-unfoldable pub stage : (rate b : ℕ) (g : ℕ → ℕ → ℕ) → ℕ → ℕ → ℕ
-stage rate b g x q = rate * min x (q * b) + g (x - q * b) q
+-- a rise that takes b of x and deepens by `rate` for each of it, then g
+unfoldable pub rise : (rate b : ℕ) (g : ℕ → ℕ → ℕ) → ℕ → ℕ → ℕ
+rise rate b g x q = rate * min x (q * b) + g (x - q * b) q
 
 -- a step of d is shared between what lies before b and what lies past it
 pub shared : (n m d b : ℕ) → m ≤ n + d → min m b - min n b + (m - b - (n - b)) ≤ d
 shared n m d b h = omega arith
 
--- a stage no faster than what follows it
-pub stage_ramp : (rate b c : ℕ) (g : ℕ → ℕ → ℕ) → rate ≤ c → Ramp g c → Ramp (stage rate b g) c
-unfolding stage
-stage_ramp rate b c g l r =
+-- a rise no faster than what follows it
+pub rise_ramp : (rate b c : ℕ) (g : ℕ → ℕ → ℕ) → rate ≤ c → Ramp g c → Ramp (rise rate b g) c
+unfolding rise
+rise_ramp rate b c g l r =
     record {
       scaled = λ k n q.
           let e : k * q * b ≡ k * (q * b) = omega arith in
@@ -42,10 +43,10 @@ stage_ramp rate b c g l r =
     joined r c A B a G H e d h k l = omega arith
 
 -- a stretch is two stages, and then the rest of the way
-pub charred_stages : (s : Stretch) (ss : List Stretch) (x q : ℕ)
-    → charred (s ∷ ss) x q ≡ stage 2 (fast_part s) (stage 1 (2 * settled_part s) (charred ss)) x q
-unfolding stage charred
-charred_stages s ss x q =
+pub charred_rises : (s : Stretch) (ss : List Stretch) (x q : ℕ)
+    → charred (s ∷ ss) x q ≡ rise 2 (fast_part s) (rise 1 (2 * settled_part s) (charred ss)) x q
+unfolding rise charred
+charred_rises s ss x q =
     let e : q * (2 * settled_part s) ≡ 2 * q * settled_part s = omega arith in
     rw e (omega arith)
 
@@ -54,6 +55,6 @@ pub charred_ramp : (ss : List Stretch) → Ramp (charred ss) 2
 unfolding charred
 charred_ramp [] = same (λ (n q : ℕ). q * 0) (charred []) 2 (λ n q. omega arith) (weaker (λ (n q : ℕ). q * 0) 0 2 (omega arith) (steady 0))
 charred_ramp (s ∷ ss) =
-    same (stage 2 (fast_part s) (stage 1 (2 * settled_part s) (charred ss))) (charred (s ∷ ss)) 2 (charred_stages s ss)
-    (stage_ramp 2 (fast_part s) 2 (stage 1 (2 * settled_part s) (charred ss)) (omega arith)
-    (stage_ramp 1 (2 * settled_part s) 2 (charred ss) (omega arith) (charred_ramp ss)))
+    same (rise 2 (fast_part s) (rise 1 (2 * settled_part s) (charred ss))) (charred (s ∷ ss)) 2 (charred_rises s ss)
+    (rise_ramp 2 (fast_part s) 2 (rise 1 (2 * settled_part s) (charred ss)) (omega arith)
+    (rise_ramp 1 (2 * settled_part s) 2 (charred ss) (omega arith) (charred_ramp ss)))

@@ -2,8 +2,8 @@
 -- times q, so that it is whole.
 use Rattle.std.specs.Prelude.{ℕ, ◌+◌, ◌-◌, ◌*◌, ◌/◌, min, max, List}
 use Rattle.panel.specs.declared.Panel.{Panel}
-use Rattle.charring.specs.Fires.{tenth, start_of, failure_of, plain_rate, slow_rate, back_face}
-use Rattle.charring.specs.Stages.{Stretch, way, charred}
+use Rattle.charring.specs.Rates.{tenth, start_of, failure_of, plain_rate, slow_rate, back_face}
+use Rattle.charring.specs.Way.{Stretch, way, charred}
 
 -- "Before t_ch no charring. From t_ch to t_f the rate is k2·β": what has charred by n/q, up to t_f; half picometres, times q
 abbrev pub under_at : Panel → ℕ → ℕ → ℕ

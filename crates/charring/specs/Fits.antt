@@ -1,15 +1,13 @@
 -- The limits of lines 3, 4, 8, 9, 10 and 11 within which the depth at n/q minutes, times q, fits 64 bits for up to sixty parts to the
 -- minute, and a time of which a depth is asked.
-use Rattle.std.specs.Prelude.{ℕ, ◌*◌, ◌/◌, ◌<◌, ◌≤◌, Bool, true, false}
-use Rattle.charring.specs.declared.Phase.{Phase}
-use Rattle.charring.specs.declared.Phase.TheVariants.{Fast, Settled}
+use Rattle.std.specs.Prelude.{ℕ, ◌*◌, ◌<◌, ◌≤◌}
 use Rattle.panel.specs.declared.Panel.{Panel}
 use Rattle.panel.specs.Lamellae.{lamellae, thickness}
-use Rattle.panel.specs.Timber.{rate_of}
-use Rattle.limits.specs.Causes.{last_minute}
-use Rattle.charring.specs.Fires.{start_of, failure_of, k2}
+use Rattle.panel.specs.Product.{rate_of}
+use Rattle.refusals.specs.Causes.{last_minute}
+use Rattle.charring.specs.Rates.{start_of, failure_of, k2}
 
-pub record FireFits (p : Panel) : Type 0 where
+pub record CharringFits (p : Panel) : Type 0 where
   pub rate : rate_of p ≤ 100
   pub start : start_of p ≤ 112000
   pub failure : failure_of p ≤ 360000
@@ -22,8 +20,3 @@ pub record FireFits (p : Panel) : Type 0 where
 -- n/q minutes of which a depth is worked out: at most 360, in whole parts of which q, at most sixty, make a minute
 abbrev pub TimeFits : ℕ → ℕ → Type 0
 TimeFits n q = (0 < q) × ((q ≤ 60) × (n ≤ last_minute * q))
-
--- the phase in a stretch, by whether its fast part lasts
-abbrev pub phase_in : Bool → ℕ → Phase
-phase_in true end = Fast (end / 10000)
-phase_in false end = Settled

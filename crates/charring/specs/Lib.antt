@@ -1,8 +1,6 @@
-pub mod Fires
-pub mod Stages
+pub mod Rates
+pub mod Way
 pub mod Depths
-pub mod Phases
 pub mod Fits
 pub mod Lines
-pub mod Ways
-pub mod Answers
+pub mod Walk

@@ -1,12 +1,12 @@
 // Char depth and effective depth at a time. Everything is worked out times q, as it is defined, so that nothing is lost.
 ghost use Rattle.std.specs.Prelude.{◌≡◌, ◌*◌, ◌≤◌};
-ghost use Rattle.limits.specs.Causes.{last_minute};
-ghost use Rattle.charring.specs.Fires.{tenth};
+ghost use Rattle.refusals.specs.Causes.{last_minute};
+ghost use Rattle.charring.specs.Rates.{tenth};
 ghost use Rattle.charring.specs.Depths.{char_at, effective_at, micrometres_at, tenths_at, round_up};
 
-use crate::{Fire, Time};
+use crate::{CharringValues, Time};
 
-// No open call: the divisor must be there, and what comes out must fit. The cast is kept as it is: a `try_from` would add an error that never
+// The divisor must be there, and what comes out must fit. The cast is kept as it is: a `try_from` would add an error that never
 // comes.
 fn rounded_up(n: u64, d: u64) -> u32
     requires le_d { (20000 ≤ d) × (d ≤ 6720000) }
@@ -17,9 +17,9 @@ fn rounded_up(n: u64, d: u64) -> u32
     ((n + (by - 1)) / by) as u32
 }
 
-impl Fire {
+impl CharringValues {
     // The char depth in half picometres, times q.
-    pub(crate) fn char(&self, at: Time) -> u64
+    pub fn char(&self, at: Time) -> u64
         ensures { (result ≡ char_at self.now.panel at.n at.q) × (result ≤ 48000000000000) }
     {
         let early = (1000 * at.n).saturating_sub(at.scaled(self.start));

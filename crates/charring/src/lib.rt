@@ -1,21 +1,18 @@
-// Charring behind cladding and bond lines (document 01, "Charring"): char depth, phase and effective depth at a time.
+// Charring behind cladding and bond lines (document 01, "Charring"): char depth and effective depth at a time. No open
+// calls: what a function asks, its `requires` says.
 #![tactic(auto)]
 
 ghost use Rattle.std.specs.Prelude.{◌≡◌, ◌+◌, ◌*◌, ◌≤◌};
-ghost use Rattle.charring.specs.Fires.{start_of, failure_of, plain_rate, slow_rate, back_face, depth_at_failure, first_end};
+ghost use Rattle.charring.specs.Rates.{start_of, failure_of, plain_rate, slow_rate, back_face, depth_at_failure, first_end};
 ghost use Rattle.charring.specs.Depths.{full_at};
-ghost use Rattle.charring.specs.Fits.{FireFits, TimeFits};
+ghost use Rattle.charring.specs.Fits.{CharringFits, TimeFits};
 
-pub mod calls;
 mod depths;
-mod fires;
-mod lines;
-mod phases;
-mod table;
+pub mod lines;
 mod times;
+mod values;
 mod walk;
 
-use limits::LAST_MINUTE;
 use panel::Panel;
 
 // A tenth of mm, in picometres.
@@ -24,22 +21,10 @@ const TENTH: u64 = 100000000;
 // 25 mm, in picometres: how far a fast run goes.
 const FAST_RUN: u64 = 25000000000;
 
-// The entries of a depth table: one for each minute. The cast is kept as it is: no constant can call `usize::from`.
-const ENTRIES: usize = LAST_MINUTE as usize + 1;
-
-// The phase of the char. A fast phase carries the char depth where it ends, in hundred-thousandths of mm.
-#[derive(Clone, Copy, Debug, PartialEq, Eq)]
-pub enum Phase {
-    Untouched,
-    UnderCladding,
-    Fast(u32),
-    Settled,
-}
-
 // n/q minutes: at most 360, in whole parts of which q, at most sixty, make a minute.
 #[derive(Clone, Copy)]
 pub struct Time {
-    n: u64,
+    pub n: u64,
     q: u64,
     ghost fits: { TimeFits n q },
 }
@@ -47,17 +32,17 @@ pub struct Time {
 // A panel and what is the same of it at every time: t_ch and t_f, the rates under cladding and after it, the depth at t_f, where the first
 // run ends, the back face, and when k0 is 1. Times in thousandths of a minute, lengths in picometres.
 #[derive(Clone, Copy)]
-pub struct Fire {
+pub struct CharringValues {
     pub panel: Panel,
-    start: u64,
-    failure: u64,
+    pub start: u64,
+    pub failure: u64,
     slow: u64,
     plain: u64,
     depth: u64,
     end: u64,
-    back: u64,
+    pub back: u64,
     full: u64,
-    ghost fits: { FireFits panel },
+    ghost fits: { CharringFits panel },
     ghost start_is: { start ≡ start_of panel },
     ghost failure_is: { failure ≡ failure_of panel },
     ghost slow_is: { slow ≡ slow_rate panel },
@@ -72,14 +57,14 @@ pub struct Fire {
     ghost end_most: { end ≤ 385000000000 },
 }
 
-// A place on the way that is gone up to a time, n/q minutes: the depth and where its run ends, in picometres; and times q what is left of
-// the time in twice what β alone adds, and what has charred on the way, in half picometres.
+// How far the way is gone by a time, n/q minutes: the depth, `from`, and where its run ends, in picometres. And times q: what is left of the
+// time, in twice what β alone adds, and what has charred on the way, `gained`; both in half picometres.
 #[derive(Clone, Copy)]
-pub(crate) struct Place {
+pub struct Progress {
     at: Time,
     from: u64,
-    end: u64,
-    left: u64,
+    pub end: u64,
+    pub left: u64,
     gained: u64,
     ghost from_most: { from ≤ 400000000000 },
     ghost end_most: { end ≤ 425000000000 },

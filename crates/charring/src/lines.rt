@@ -1,39 +1,39 @@
 // The bond lines that matter, one after the other from the exposed face.
 ghost use Rattle.std.specs.Prelude.{◌≡◌, ◌+◌, ◌*◌, ◌≤◌};
 ghost use Rattle.panel.specs.Lamellae.{thickness};
-ghost use Rattle.charring.specs.Fires.{tenth, fast_run, line_end};
-ghost use Rattle.charring.specs.Fits.{FireFits};
+ghost use Rattle.charring.specs.Rates.{tenth, fast_run, line_end};
+ghost use Rattle.charring.specs.Fits.{CharringFits};
 ghost use Rattle.charring.specs.Lines.{by_thickness};
 
 use crate::{FAST_RUN, TENTH};
 use panel::Panel;
 
-// A line: its depth, and where a run that starts there ends.
+// A line: its depth, and where a run that starts there ends, in picometres.
 #[derive(Clone, Copy)]
-pub(crate) struct Line {
+pub struct Line {
     pub at: u64,
     pub end: u64,
     ghost at_most: { at ≤ 400000000000 },
     ghost end_most: { end ≤ 425000000000 },
 }
 
-// The lines below a depth, where the lamellae that are left begin, by their thicknesses.
+// The lines below a depth, in picometres, where the lamellae that are left begin, by their thicknesses, in tenths of mm.
 #[derive(Clone, Copy)]
-pub(crate) struct Lines<'a> {
+pub struct Lines<'a> {
     pub top: u64,
     pub rest: &'a [u16],
     ghost within: { top + tenth * thickness (by_thickness rest.now) ≤ 400000000000 },
 }
 
 impl<'a> Lines<'a> {
-    ghost use Rattle.charring.specs.Fires.{bond_lines};
-    ghost use Rattle.charring.specs.Ways.{lines_left};
+    ghost use Rattle.charring.specs.Rates.{bond_lines};
+    ghost use Rattle.charring.specs.Walk.{lines_left};
 
-    // The lines of a panel. Where the bond holds there are none. No open call: the limits must hold; what is asked is kept as it is, since a
+    // The lines of a panel. Where the bond holds there are none. The limits must hold; what is asked is kept as it is, since a
     // fire is made of a panel that no `Accepted` need be. The bond's number is kept as it is: a panel is plain data, whose raw numbers calls
     // refuse. So is the used front of the thicknesses: directions do not matter here, and no `Lamellae` is wanted.
-    pub(crate) fn of(p: &'a Panel) -> Lines<'a>
-        requires { FireFits p.now }
+    pub fn of(p: &'a Panel) -> Lines<'a>
+        requires { CharringFits p.now }
         ensures { lines_left result ≡ bond_lines p.now }
     {
         if p.bond != 1 {
@@ -59,7 +59,7 @@ impl<'a> Lines<'a> {
 
 impl Iterator for Lines<'_> {
     ghost use Rattle.std.specs.Iterator.{item_count};
-    ghost use Rattle.charring.specs.Ways.{lines_left, GivesLine};
+    ghost use Rattle.charring.specs.Walk.{lines_left, GivesLine};
 
     type Item = Line;
 

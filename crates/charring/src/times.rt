@@ -1,12 +1,12 @@
 // A time of which a depth or a phase is asked, and what is worked out times q of it.
 ghost use Rattle.std.specs.Prelude.{◌≡◌, ◌*◌, ◌≤◌};
-ghost use Rattle.limits.specs.Causes.{last_minute};
+ghost use Rattle.refusals.specs.Causes.{last_minute};
 ghost use Rattle.charring.specs.Fits.{TimeFits};
 
 use crate::Time;
 
 impl Time {
-    // n/q minutes. No open call: at most 360 minutes, in parts of which at most sixty make one.
+    // n/q minutes. At most 360 minutes, in parts of which at most sixty make one.
     pub fn of(n: u64, q: u64) -> Time
         requires { TimeFits n q }
         ensures { (result.n ≡ n) × (result.q ≡ q) }
@@ -15,7 +15,7 @@ impl Time {
     }
 
     // A whole minute. It and `second` are kept as they are: each says in one line what a call site means. The bare
-    // minute stays as it is, here and in `Fire::micrometres`: a `Minute` would ask more of callers, which count minutes.
+    // minute stays as it is, here and in `CharringValues::micrometres`: a `Minute` would ask more of callers, which count minutes.
     pub fn minute(minute: u64) -> Time
         requires { minute ≤ last_minute }
         ensures { (result.n ≡ minute) × (result.q ≡ 1) }
@@ -32,7 +32,7 @@ impl Time {
     }
 
     // A time or a length times q.
-    pub(crate) fn scaled(self, x: u64) -> u64
+    pub fn scaled(self, x: u64) -> u64
         requires { x ≤ 400000000000 }
         ensures { (result ≡ self.q * x) × (result ≤ 60 * x) }
     {

@@ -9,8 +9,8 @@ use native.Mathlib.Omega.{arith}
 use native.Mathlib.Decide.{dec_lt}
 use borrow.Author.Tests.{eq-eqb, ne_eqb}
 use Rattle.panel.specs.declared.Panel.{Panel}
-use Rattle.limits.specs.Refusals.{panel_refusal}
-use Rattle.charring.specs.Fires.{start_of, failure_of, clad, back_face, depth_at_failure, bond_lines, line_end, intact_end, passed_end, first_end}
+use Rattle.refusals.specs.Refusals.{panel_refusal}
+use Rattle.charring.specs.Rates.{start_of, failure_of, clad, back_face, depth_at_failure, bond_lines, line_end, intact_end, passed_end, first_end}
 use Rattle.charring.specs.Depths.{char_at}
 use Rattle.charring_stated.specs.Charring.{IsIntactEnd, IsFirstEnd, NonePassed, DeepestPassed}
 use Rattle.charring.proofs.DepthParts.{under_full}

@@ -11,11 +11,11 @@ use borrow.Author.Tests.{ne_eqb}
 use Rattle.panel.specs.declared.Panel.{Panel}
 use Rattle.panel.specs.Faces.{turned, fires_on, least_of}
 use Rattle.panel.proofs.Turning.{every_holds}
-use Rattle.limits.specs.Refusals.{panel_refusal}
-use Rattle.charring.specs.Fires.{start_of, failure_of, slow_rate, back_face, depth_at_failure, bond_lines, line_end, intact_end, passed_end, first_end}
-use Rattle.charring.specs.Stages.{Stretch, way_to, way}
+use Rattle.refusals.specs.Refusals.{panel_refusal}
+use Rattle.charring.specs.Rates.{start_of, failure_of, slow_rate, back_face, depth_at_failure, bond_lines, line_end, intact_end, passed_end, first_end}
+use Rattle.charring.specs.Way.{Stretch, way_to, way}
 use Rattle.charring.specs.Depths.{char_on, char_at, effective_from, effective_at, in_tenths}
-use Rattle.charring.specs.Phases.{phase_from, phase_at}
+use Rattle.phases.specs.Phases.{phase_from, phase_at}
 use Rattle.section.specs.Tests.{depth_passes}
 use Rattle.load.specs.Failure.{seconds_per_minute}
 use Rattle.load.specs.LoadMinute.{every_from, time_test, whole_part, load_minute, load_seconds}

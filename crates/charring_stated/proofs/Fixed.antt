@@ -8,17 +8,17 @@ use native.Mathlib.Decide.{dec_le, dec_lt}
 use native.Mathlib.Nat.{mul-pos, mul-le-mul_left, mul-le-mul_right, min-eq_left}
 use native.Mathlib.Nat.{min-eq_right, mul-lt-mul_of_pos_left, le_of_mul-le-mul_right, lt_of_mul-lt-mul_left, eq_of_mul-eq-mul_left}
 use Rattle.panel.specs.declared.Panel.{Panel}
-use Rattle.limits.specs.Refusals.{panel_refusal}
-use Rattle.charring.specs.declared.Phase.{Phase}
-use Rattle.charring.specs.declared.Phase.TheVariants.{Fast, Settled}
-use Rattle.charring.specs.Fires.{start_of, failure_of, plain_rate, back_face, bond_lines, line_end}
+use Rattle.refusals.specs.Refusals.{panel_refusal}
+use Rattle.phases.specs.declared.Phase.{Phase}
+use Rattle.phases.specs.declared.Phase.TheVariants.{Fast, Settled}
+use Rattle.charring.specs.Rates.{start_of, failure_of, plain_rate, back_face, bond_lines, line_end}
 use Rattle.charring.specs.Depths.{char_at}
-use Rattle.charring.specs.Phases.{phase_at}
+use Rattle.phases.specs.Phases.{phase_at}
 use Rattle.charring_stated.specs.Charring.{Charring, FastUpTo, NoLineAt}
 use Rattle.charring.proofs.Accepted.{fire_fits, rate_least_lem}
 use Rattle.charring_stated.proofs.Lines.{lines_deeper, deeper_after, line_end_deeper}
 use Rattle.charring_stated.proofs.FirstEnds.{first_fixed}
-use Rattle.charring_stated.proofs.Legs.{NextMark, next_mark, LineAt, line_at, Course, fast, settled, course_rate, Leg, leg}
+use Rattle.charring_stated.proofs.Marks.{NextMark, next_mark, LineAt, line_at, Course, fast, settled, course_rate, UpToMark, up_to_mark}
 use Rattle.charring_stated.proofs.Stated.{charring_stated}
 
 -- Equal times
@@ -113,30 +113,30 @@ module _
         phases = c₁.through m q pos (omega arith) ∙ sym (c₂.through m q pos (omega arith));
       }
 
-  -- from n/q on both follow one leg, to its mark at (n + gap)/q and from there on
+  -- from n/q on both follow one up_to_mark, to its mark at (n + gap)/q and from there on
   along :
       (n q rate mark gap : ℕ) (f : Phase) → 0 < q → 0 < rate → q * failure_of p ≤ 1000 * n → depth₁ n q ≡ depth₂ n q
-      → Leg p depth₁ phase₁ n q rate mark f → Leg p depth₂ phase₂ n q rate mark f → depth₁ n q + rate * gap ≡ 2 * q * mark
+      → UpToMark p depth₁ phase₁ n q rate mark f → UpToMark p depth₂ phase₂ n q rate mark f → depth₁ n q + rate * gap ≡ 2 * q * mark
       → (State (n + gap) q → depth₁ (n + gap) q ≡ 2 * q * mark → (m : ℕ) → n + gap ≤ m → Agree m q) → (m : ℕ) → n ≤ m → Agree m q
-  along n q rate mark gap f pos some past same leg₁ leg₂ there later m le = go (dec_lt m (n + gap))
+  along n q rate mark gap f pos some past same next₁ next₂ there later m le = go (dec_lt m (n + gap))
     where
       go : Dec (m < n + gap) → Agree m q
       go (yes h) =
           let d : ℕ = depth₁ n q + rate * (m - n) in
           let short : d < 2 * q * mark = omega (arith, mul-lt-mul_of_pos_left (let i : m - n < gap = omega arith in i) some) in
-          let first : depth₁ m q ≡ d = leg₁.grows m d le refl (omega arith) in
-          let second : depth₂ m q ≡ d = leg₂.grows m d le (omega arith) (omega arith) in
-          record { depths = first ∙ sym second; phases = leg₁.lasts m le (omega arith) ∙ sym (leg₂.lasts m le (omega arith)) }
+          let first : depth₁ m q ≡ d = next₁.grows m d le refl (omega arith) in
+          let second : depth₂ m q ≡ d = next₂.grows m d le (omega arith) (omega arith) in
+          record { depths = first ∙ sym second; phases = next₁.lasts m le (omega arith) ∙ sym (next₂.lasts m le (omega arith)) }
       go (no h) =
           let step : 2 * q * mark ≡ depth₁ n q + rate * (n + gap - n) = sym there ∙ ap (λ (t : ℕ). depth₁ n q + rate * t) (omega arith) in
-          let first : depth₁ (n + gap) q ≡ 2 * q * mark = leg₁.grows (n + gap) (2 * q * mark) (omega arith) step (omega arith) in
-          let second : depth₂ (n + gap) q ≡ 2 * q * mark = leg₂.grows (n + gap) (2 * q * mark) (omega arith) (omega arith) (omega arith) in
+          let first : depth₁ (n + gap) q ≡ 2 * q * mark = next₁.grows (n + gap) (2 * q * mark) (omega arith) step (omega arith) in
+          let second : depth₂ (n + gap) q ≡ 2 * q * mark = next₂.grows (n + gap) (2 * q * mark) (omega arith) (omega arith) (omega arith) in
           later
           (comes_to (n + gap) q pos (omega arith) (first ∙ sym second)
           (λ short free.
           let inner : mark < back_face p = lt_of_mul-lt-mul_left (2 * q) (let i : 2 * q * mark < 2 * q * back_face p = omega arith in i) in
-          starts_settled (n + gap) q (leg₁.ends (n + gap) (omega arith) first inner free)
-          (leg₂.ends (n + gap) (omega arith) second inner (λ l m e. free l m (first ∙ sym second ∙ e))) short))
+          starts_settled (n + gap) q (next₁.ends (n + gap) (omega arith) first inner free)
+          (next₂.ends (n + gap) (omega arith) second inner (λ l m e. free l m (first ∙ sym second ∙ e))) short))
           first m (omega arith)
 
   -- what is ahead, where the back face is at most k below a mark that is reached
@@ -166,8 +166,8 @@ module _
       let there : rate * (depth₁ n q + gap) ≡ rate * (2 * q * next.mark) = ap (λ (d : ℕ). rate * d) whole in
       unscaled rate m q some pos
       (along (rate * n) (rate * q) rate next.mark gap f here some (omega (arith, mul-le-mul_left rate s.past)) (sym same)
-      (leg p depth₁ phase₁ c₁ (rate * n) (rate * q) d end here refl next run (phase_scaled p depth₁ phase₁ c₁ rate n q some pos ∙ is₁))
-      (leg p depth₂ phase₂ c₂ (rate * n) (rate * q) d end here same next run (phase_scaled p depth₂ phase₂ c₂ rate n q some pos ∙ is₂))
+      (up_to_mark p depth₁ phase₁ c₁ (rate * n) (rate * q) d end here refl next run (phase_scaled p depth₁ phase₁ c₁ rate n q some pos ∙ is₁))
+      (up_to_mark p depth₂ phase₂ c₂ (rate * n) (rate * q) d end here same next run (phase_scaled p depth₂ phase₂ c₂ rate n q some pos ∙ is₂))
       (omega arith)
       (λ s at. later next.mark (rate * n + gap) (rate * q) here s (omega arith) (omega arith)) (rate * m) (mul-le-mul_left rate le))
 

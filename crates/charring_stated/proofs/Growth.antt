@@ -5,11 +5,11 @@ use mathlib.Core.List.{Memᴰ}
 use native.Mathlib.Omega.{arith}
 use native.Mathlib.Decide.{dec_le, dec_lt}
 use Rattle.panel.specs.declared.Panel.{Panel}
-use Rattle.charring.specs.declared.Phase.TheVariants.{Fast, Settled}
-use Rattle.charring.specs.Fires.{back_face, depth_at_failure, first_end, bond_lines}
-use Rattle.charring.specs.Stages.{way, charred}
-use Rattle.charring.specs.Phases.{phase_on}
-use Rattle.charring.proofs.PhaseCases.{fast_not_settled}
+use Rattle.phases.specs.declared.Phase.TheVariants.{Fast, Settled}
+use Rattle.charring.specs.Rates.{back_face, depth_at_failure, first_end, bond_lines}
+use Rattle.charring.specs.Way.{way, charred}
+use Rattle.phases.specs.Phases.{phase_on}
+use Rattle.phases.proofs.PhaseCases.{fast_not_settled}
 use Rattle.charring.proofs.WayRamps.{charred_ramp}
 use Rattle.charring.proofs.WayLaws.{exact_first, exact_bond, way_chain}
 use Rattle.charring.proofs.DepthParts.{reach, reached}

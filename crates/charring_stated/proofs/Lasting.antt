@@ -5,13 +5,13 @@ use mathlib.Core.List.{List, [], ◌∷◌}
 use native.Mathlib.Omega.{arith}
 use native.Mathlib.Nat.{mul-le-mul_left, mul-le-mul_right, lt_of_mul-lt-mul_left, lt_of_mul-lt-mul_right, le_of_mul-le-mul_right, le_of_mul-le-mul_left}
 use Rattle.panel.specs.declared.Panel.{Panel}
-use Rattle.charring.specs.Fires.{start_of, failure_of, plain_rate, back_face}
-use Rattle.charring.specs.Stages.{Stretch, way, fast_part, settled_part}
+use Rattle.charring.specs.Rates.{start_of, failure_of, plain_rate, back_face}
+use Rattle.charring.specs.Way.{Stretch, way, fast_part, settled_part}
 use Rattle.charring.specs.Depths.{char_at}
-use Rattle.charring.specs.Phases.{phase_on, phase_at}
+use Rattle.phases.specs.Phases.{phase_on, phase_at}
 use Rattle.charring.proofs.DepthLaws.{char_speed, char_ramp, char_no_less}
-use Rattle.charring.proofs.PhaseCases.{Where, through, untouched, under, onward, where_at, at_through, at_untouched, at_under, at_way}
-use Rattle.charring.proofs.PhaseCases.{WhereOn, fast, settled, rest, where_on, on_fast, on_settled, on_rest}
+use Rattle.phases.proofs.PhaseCases.{Where, through, untouched, under, onward, where_at, at_through, at_untouched, at_under, at_way}
+use Rattle.phases.proofs.PhaseCases.{WhereOn, fast, settled, rest, where_on, on_fast, on_settled, on_rest}
 use Rattle.charring_stated.proofs.Runs.{on_empty}
 use Rattle.charring_stated.proofs.PhaseLaws.{Throughout}
 

@@ -13,5 +13,5 @@ pub mod Stated
 -- The first run, at t_f.
 pub mod FirstRun
 -- And nothing else does.
-pub mod Legs
+pub mod Marks
 pub mod Fixed

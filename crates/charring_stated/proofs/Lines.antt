@@ -13,11 +13,11 @@ use borrow.Author.Tests.{eqb-true, eq-eqb}
 use Rattle.numbers.specs.Firsts.{firsts}
 use Rattle.panel.specs.declared.Panel.{Panel}
 use Rattle.panel.specs.Lamellae.{Lamella, lamella, lamellae, lamellae_of, thickness}
-use Rattle.limits.specs.Refusals.{panel_refusal}
+use Rattle.refusals.specs.Refusals.{panel_refusal}
 use Rattle.limits.specs.Keeps.{LamellaeKeep}
 use Rattle.panel.proofs.Used.{thickness_more, thickness_prefix}
 use Rattle.limits.proofs.Accepted.{accepted_keeps, lamella_keeps}
-use Rattle.charring.specs.Fires.{tenth, back_face, lines_from, bond_lines, line_end}
+use Rattle.charring.specs.Rates.{tenth, back_face, lines_from, bond_lines, line_end}
 use Rattle.charring_stated.specs.Charring.{IsBondLine, Deeper, face, next}
 
 -- an accepted panel has some thickness

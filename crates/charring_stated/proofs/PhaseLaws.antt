@@ -5,13 +5,13 @@ use native.Mathlib.Omega.{arith}
 use native.Mathlib.Nat.{le_trans, mul-sub, mul-add, mul-le-mul_left, mul-pos}
 use Rattle.panel.specs.declared.Panel.{Panel}
 use Rattle.panel.specs.Lamellae.{lamellae, thickness}
-use Rattle.charring.specs.declared.Phase.{Phase}
-use Rattle.charring.specs.declared.Phase.TheVariants.{Untouched}
-use Rattle.charring.specs.Fires.{start_of, failure_of, plain_rate, slow_rate, back_face, depth_at_failure}
-use Rattle.charring.specs.Stages.{way}
+use Rattle.phases.specs.declared.Phase.{Phase}
+use Rattle.phases.specs.declared.Phase.TheVariants.{Untouched}
+use Rattle.charring.specs.Rates.{start_of, failure_of, plain_rate, slow_rate, back_face, depth_at_failure}
+use Rattle.charring.specs.Way.{way}
 use Rattle.charring.specs.Depths.{under_at, after_at, char_at}
-use Rattle.charring.specs.Phases.{phase_at}
-use Rattle.charring.proofs.PhaseCases.{at_untouched}
+use Rattle.phases.specs.Phases.{phase_at}
+use Rattle.phases.proofs.PhaseCases.{at_untouched}
 use Rattle.charring.proofs.WayLaws.{charred_none}
 use Rattle.charring.proofs.DepthParts.{char_parts, under_full}
 

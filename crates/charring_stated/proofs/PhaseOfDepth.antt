@@ -8,18 +8,19 @@ use native.Mathlib.Nat.{mul-le-mul_left}
 use lib.Dec.{ltb}
 use borrow.Author.Tests.{lt-ltb, le-ltb}
 use Rattle.panel.specs.declared.Panel.{Panel}
-use Rattle.charring.specs.declared.Phase.{Phase}
-use Rattle.charring.specs.declared.Phase.TheVariants.{Fast, Settled}
-use Rattle.charring.specs.Fires.{start_of, failure_of, plain_rate, back_face, depth_at_failure}
-use Rattle.charring.specs.Stages.{Stretch, way, charred, fast_part, settled_part}
+use Rattle.phases.specs.declared.Phase.{Phase}
+use Rattle.phases.specs.declared.Phase.TheVariants.{Fast, Settled}
+use Rattle.charring.specs.Rates.{start_of, failure_of, plain_rate, back_face, depth_at_failure}
+use Rattle.charring.specs.Way.{Stretch, way, charred, fast_part, settled_part}
 use Rattle.charring.specs.Depths.{after_at, char_at}
-use Rattle.charring.specs.Phases.{phase_on, phase_at}
-use Rattle.charring.specs.Fits.{phase_in}
-use Rattle.charring.proofs.PhaseCases.{WhereOn, fast, settled, rest, where_on, at_way}
-use Rattle.charring.proofs.WayLaws.{Chain, last, next, way_chain, parts, parts_cover, positive}
+use Rattle.phases.specs.Phases.{phase_on, phase_at}
+use Rattle.phases.specs.Phases.{phase_in}
+use Rattle.phases.proofs.PhaseCases.{WhereOn, fast, settled, rest, where_on, at_way}
+use Rattle.charring.proofs.WayLaws.{Chain, last, next, way_chain, parts, parts_cover}
 use Rattle.charring.proofs.WayLaws.{fast_part_end, fast_part_to, settled_part_end, settled_part_to, charred_past, charred_within, charred_settled, charred_none}
 use Rattle.charring.proofs.DepthParts.{char_parts, under_full}
 use Rattle.charring_stated.proofs.Runs.{on_empty}
+use Rattle.numbers.proofs.Products.{positive}
 
 -- the phase at a depth d/q, half picometres, in a run that ends at `end`
 unfoldable pub in_run : ℕ → ℕ → ℕ → Phase

@@ -4,11 +4,11 @@ use mathlib.Core.Path.{◌≡◌, refl, sym, ap, ◌∙◌}
 use mathlib.Core.List.{List, [], ◌∷◌}
 use native.Mathlib.Omega.{arith}
 use native.Mathlib.Decide.{dec_lt}
-use Rattle.charring.specs.declared.Phase.TheVariants.{Settled}
-use Rattle.charring.specs.Stages.{Stretch, charred, fast_part, settled_part}
-use Rattle.charring.specs.Phases.{phase_on}
-use Rattle.charring.proofs.WayRamps.{stage, charred_stages}
-use Rattle.charring.proofs.PhaseCases.{on_fast, on_settled, on_rest, fast_not_settled}
+use Rattle.phases.specs.declared.Phase.TheVariants.{Settled}
+use Rattle.charring.specs.Way.{Stretch, charred, fast_part, settled_part}
+use Rattle.phases.specs.Phases.{phase_on}
+use Rattle.charring.proofs.WayRamps.{rise, charred_rises}
+use Rattle.phases.proofs.PhaseCases.{on_fast, on_settled, on_rest, fast_not_settled}
 use Rattle.charring.proofs.DepthParts.{reach}
 
 -- Stages
@@ -20,11 +20,11 @@ split x y b h = numbers x y (y - x) b (omega arith)
     numbers : (x y d b : ℕ) → y ≡ x + d → min y b - min x b + (y - b - (x - b)) ≡ d
     numbers x y d b e = omega arith
 
--- a stage at the rate of what follows
-stage_along : (c b : ℕ) (g : ℕ → ℕ → ℕ) (x y q : ℕ) → x ≤ y → g (y - q * b) q ≡ g (x - q * b) q + c * (y - q * b - (x - q * b))
-    → stage c b g y q ≡ stage c b g x q + c * (y - x)
-unfolding stage
-stage_along c b g x y q h k =
+-- a rise at the rate of what follows
+rise_along : (c b : ℕ) (g : ℕ → ℕ → ℕ) (x y q : ℕ) → x ≤ y → g (y - q * b) q ≡ g (x - q * b) q + c * (y - q * b - (x - q * b))
+    → rise c b g y q ≡ rise c b g x q + c * (y - x)
+unfolding rise
+rise_along c b g x y q h k =
     numbers c (min y (q * b)) (min x (q * b)) (y - q * b - (x - q * b)) (y - x) (g (y - q * b) q) (g (x - q * b) q)
     (grows x y (q * b) h) (split x y (q * b) h) k
   where
@@ -36,11 +36,11 @@ stage_along c b g x y q h k =
         let whole : c * (u + w) ≡ c * (v + d) = ap (λ (z : ℕ). c * z) (let s : u + w ≡ v + d = omega arith in s) in
         omega arith
 
--- a stage that takes nothing of the step
-stage_past : (r c b : ℕ) (g : ℕ → ℕ → ℕ) (x y q : ℕ) → x ≤ y → min y (q * b) ≡ min x (q * b)
-    → g (y - q * b) q ≡ g (x - q * b) q + c * (y - q * b - (x - q * b)) → stage r b g y q ≡ stage r b g x q + c * (y - x)
-unfolding stage
-stage_past r c b g x y q h same k =
+-- a rise that takes nothing of the step
+rise_past : (r c b : ℕ) (g : ℕ → ℕ → ℕ) (x y q : ℕ) → x ≤ y → min y (q * b) ≡ min x (q * b)
+    → g (y - q * b) q ≡ g (x - q * b) q + c * (y - q * b - (x - q * b)) → rise r b g y q ≡ rise r b g x q + c * (y - x)
+unfolding rise
+rise_past r c b g x y q h same k =
     let e : y - q * b - (x - q * b) ≡ y - x = none_before (min y (q * b)) (min x (q * b)) (y - q * b - (x - q * b)) (y - x) same
     (split x y (q * b) h) in
     numbers (r * min y (q * b)) (r * min x (q * b)) (g (y - q * b) q) (g (x - q * b) q) (c * (y - x)) (ap (λ (z : ℕ). r * z) same) (rw e at k)
@@ -122,10 +122,10 @@ fast_run_lem (s ∷ ss) x y q h never =
     (λ k.
     never (max x a) (first x a) (second x a y (a + b) k)
     (on_settled s ss (max x a) q (third x a) (rw same (fourth x a y (a + b) k)))) in
-    charred_stages s ss y q
-    ∙ stage_along 2 (fast_part s) (stage 1 (2 * settled_part s) (charred ss)) x y q h
-    (stage_past 1 2 (2 * settled_part s) (charred ss) (x - a) (y - a) q (past_one x y a h) empty later)
-    ∙ ap (λ (k : ℕ). k + 2 * (y - x)) (sym (charred_stages s ss x q))
+    charred_rises s ss y q
+    ∙ rise_along 2 (fast_part s) (rise 1 (2 * settled_part s) (charred ss)) x y q h
+    (rise_past 1 2 (2 * settled_part s) (charred ss) (x - a) (y - a) q (past_one x y a h) empty later)
+    ∙ ap (λ (k : ℕ). k + 2 * (y - x)) (sym (charred_rises s ss x q))
   where
     first : (x a : ℕ) → x ≤ max x a
     first x a = omega arith
@@ -158,10 +158,10 @@ settled_run (s ∷ ss) x y q h within always =
     let empty : min y a ≡ min x a =
     passed x y a h
     (λ k l. fast_not_settled (phase_on (s ∷ ss) x q) (s.end / 10000) (on_fast s ss x q k) (always x (omega arith) l)) in
-    charred_stages s ss y q
-    ∙ stage_past 2 1 (fast_part s) (stage 1 (2 * settled_part s) (charred ss)) x y q h empty
-    (stage_along 1 (2 * settled_part s) (charred ss) (x - a) (y - a) q (past_one x y a h) later)
-    ∙ ap (λ (k : ℕ). k + 1 * (y - x)) (sym (charred_stages s ss x q))
+    charred_rises s ss y q
+    ∙ rise_past 2 1 (fast_part s) (rise 1 (2 * settled_part s) (charred ss)) x y q h empty
+    (rise_along 1 (2 * settled_part s) (charred ss) (x - a) (y - a) q (past_one x y a h) later)
+    ∙ ap (λ (k : ℕ). k + 1 * (y - x)) (sym (charred_rises s ss x q))
   where
     short : (a b y c : ℕ) → y ≤ a + b + c → y - a - b ≤ c
     short a b y c h = omega arith

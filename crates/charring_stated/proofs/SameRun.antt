@@ -6,12 +6,12 @@ use mathlib.Core.List.{List, [], ◌∷◌, ◌++◌, Memᴰ}
 use native.Mathlib.Omega.{arith}
 use native.Mathlib.Decide.{dec_lt}
 use native.Mathlib.Nat.{mul-le-mul_left, mul-lt-mul_of_pos_left}
-use Rattle.charring.specs.declared.Phase.TheVariants.{Fast, Settled}
-use Rattle.charring.specs.Fires.{line_end}
-use Rattle.charring.specs.Stages.{Stretch, stretches}
-use Rattle.charring.proofs.PhaseCases.{fast_not_settled, fast_end}
+use Rattle.phases.specs.declared.Phase.TheVariants.{Fast, Settled}
+use Rattle.charring.specs.Rates.{line_end}
+use Rattle.charring.specs.Way.{Stretch, stretches}
+use Rattle.phases.proofs.PhaseCases.{fast_not_settled, fast_end}
 use Rattle.charring.proofs.WayLaws.{Exact, exact_whole, AllExact, none, both, exact_line_end}
-use Rattle.charring.proofs.Ways.{to_line, past_line_lem}
+use Rattle.charring.proofs.WalkLaws.{to_line, past_line_lem}
 use Rattle.charring_stated.proofs.PhaseOfDepth.{in_run, run_fast, run_settled, phase_of_depth, deep_within, deep_rest}
 use Rattle.charring_stated.specs.Charring.{Deeper, next}
 use Rattle.charring_stated.proofs.Lines.{deeper_back, deeper_line, line_end_deeper}

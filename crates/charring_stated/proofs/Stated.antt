@@ -6,19 +6,19 @@ use native.Mathlib.Omega.{arith}
 use native.Mathlib.Decide.{dec_lt}
 use native.Mathlib.Nat.{le_trans, mul-le-mul_left, lt_of_mul-lt-mul_left, le_of_mul-le-mul_left, mul-lt-mul_of_pos_left}
 use Rattle.panel.specs.declared.Panel.{Panel}
-use Rattle.limits.specs.Refusals.{panel_refusal}
-use Rattle.charring.specs.declared.Phase.{Phase}
-use Rattle.charring.specs.declared.Phase.TheVariants.{Fast, Settled}
-use Rattle.charring.specs.Fires.{start_of, failure_of, plain_rate, slow_rate, back_face, depth_at_failure, first_end, bond_lines, line_end}
-use Rattle.charring.specs.Stages.{stretches, way, charred}
+use Rattle.refusals.specs.Refusals.{panel_refusal}
+use Rattle.phases.specs.declared.Phase.{Phase}
+use Rattle.phases.specs.declared.Phase.TheVariants.{Fast, Settled}
+use Rattle.charring.specs.Rates.{start_of, failure_of, plain_rate, slow_rate, back_face, depth_at_failure, first_end, bond_lines, line_end}
+use Rattle.charring.specs.Way.{stretches, way, charred}
 use Rattle.charring.specs.Depths.{under_at, after_at, char_at}
-use Rattle.charring.specs.Phases.{phase_at}
+use Rattle.phases.specs.Phases.{phase_at}
 use Rattle.charring_stated.specs.Charring.{Charring, FastUpTo, NoLineWithin, NoLineUpTo, NoLineAt, Deeper}
 use Rattle.charring.proofs.Accepted.{fire_fits}
 use Rattle.charring.proofs.DepthLaws.{char_ramp, char_no_less}
 use Rattle.charring.proofs.DepthBounds.{char_within}
-use Rattle.charring.proofs.PhaseCases.{Where, through, untouched, under, onward, where_at, at_through, at_under, at_way}
-use Rattle.charring.proofs.PhaseCases.{fast_not_settled, untouched_not_settled, untouched_not_fast, under_not_settled, under_not_fast}
+use Rattle.phases.proofs.PhaseCases.{Where, through, untouched, under, onward, where_at, at_through, at_under, at_way}
+use Rattle.phases.proofs.PhaseCases.{fast_not_settled, untouched_not_settled, untouched_not_fast, under_not_settled, under_not_fast}
 use Rattle.charring.proofs.WayLaws.{Exact, exact_whole, AllExact, both, exact_first, exact_bond, exact_line_end}
 use Rattle.charring.proofs.DepthParts.{char_parts, under_full}
 use Rattle.charring_stated.proofs.PhaseLaws.{char_until_failure, under_part, no_char, untouched_before, base_rises, base_step, way_step}

@@ -4,10 +4,10 @@
 use Rattle.std.specs.Prelude.{ℕ, ◌+◌, ◌-◌, ◌*◌, ◌≤◌, ◌<◌, min, ◌≡◌, true, false}
 use mathlib.Core.List.{List, [], ◌∷◌, ◌++◌, Memᴰ}
 use Rattle.panel.specs.declared.Panel.{Panel}
-use Rattle.charring.specs.declared.Phase.{Phase}
-use Rattle.charring.specs.declared.Phase.TheVariants.{Untouched, UnderCladding, Fast, Settled}
+use Rattle.phases.specs.declared.Phase.{Phase}
+use Rattle.phases.specs.declared.Phase.TheVariants.{Untouched, UnderCladding, Fast, Settled}
 use Rattle.panel.specs.Lamellae.{lamellae_of, thickness}
-use Rattle.charring.specs.Fires.{tenth, fast_run, start_of, failure_of, clad, plain_rate, slow_rate, back_face, bond_lines, line_end}
+use Rattle.charring.specs.Rates.{tenth, fast_run, start_of, failure_of, clad, plain_rate, slow_rate, back_face, bond_lines, line_end}
 
 -- "fast up to a named end .. The end is a char depth, kept exactly in hundred-thousandths of a mm"
 pub record FastUpTo (phase : Phase) (end : ℕ) : Type 0 where

@@ -3,11 +3,11 @@ use Rattle.std.specs.Prelude.{ℕ, ◌*◌, ◌≤◌, ◌<◌, ◌≡◌, List,
 use Rattle.panel.specs.declared.Panel.{Panel}
 use Rattle.panel.specs.Faces.{fires, InEvery, least_of}
 use Rattle.section.specs.Tests.{depth_passes}
-use Rattle.charring.specs.declared.Phase.TheVariants.{Settled}
-use Rattle.charring.specs.Fires.{failure_of, back_face, bond_lines, line_end, intact_end, first_end}
-use Rattle.charring.specs.Stages.{Stretch, way_to}
+use Rattle.phases.specs.declared.Phase.TheVariants.{Settled}
+use Rattle.charring.specs.Rates.{failure_of, back_face, bond_lines, line_end, intact_end, first_end}
+use Rattle.charring.specs.Way.{Stretch, way_to}
 use Rattle.charring.specs.Depths.{char_on, char_at, effective_from, in_tenths}
-use Rattle.charring.specs.Phases.{phase_from, phase_at}
+use Rattle.phases.specs.Phases.{phase_from, phase_at}
 use Rattle.load.specs.Failure.{seconds_per_minute}
 use Rattle.load.specs.LoadMinute.{every_from, whole_part, load_minute, printed_load, load_seconds, printed_load_seconds}
 use Rattle.charring_stated.specs.Charring.{FastUpTo, NonePassed, DeepestPassed, NoLineAt}

@@ -6,8 +6,8 @@ use native.Mathlib.Omega.{arith}
 use Rattle.std.specs.Prelude.{Option, Some, None, Ok, Err}
 use Rattle.planing.specs.declared.Cut.{Cut}
 use Rattle.panel.specs.declared.Panel.{Panel}
-use Rattle.limits.specs.Refusals.{panel_refusal}
-use Rattle.limits.proofs.FirstLine.{answered}
+use Rattle.refusals.specs.Refusals.{panel_refusal}
+use Rattle.refusals.proofs.FirstLine.{answered}
 use Rattle.record.specs.Layouts.{panel_of}
 use Rattle.record.proofs.Sound.{record_panel}
 use Rattle.planing.specs.LeastCut.{IsLeastCut, IsPlaning}
@@ -22,8 +22,8 @@ read_off : (p : Panel) (place tenths : ℕ) → panel_refusal p ≡ 0 → IsLeas
     → SaysOf p (1000 * place + tenths)
 read_off p place tenths e h =
     let within = allowed_within p (record { place = place; tenths = tenths }) e h.lowering.allowed in
-    let here = within.0 in
-    let few = within.1.1 in
+    let here = within.first in
+    let few = within.most in
     says (1000 * place + tenths) (omega arith) (omega arith) (omega arith)
   where
     says : (n : ℕ) → 0 < n → n / 1000 ≡ place → n % 1000 ≡ tenths → SaysOf p n

@@ -2,7 +2,7 @@
 use Prim.Native.Nat.{ℕ, min}
 use mathlib.Core.Path.{◌≡◌, sym, ap₂, subst}
 use Rattle.panel.specs.declared.Panel.{Panel}
-use Rattle.limits.specs.Refusals.{panel_refusal}
+use Rattle.refusals.specs.Refusals.{panel_refusal}
 use Rattle.layers.specs.Layers.{printed_ei}
 use Rattle.grades.specs.Grades.{IsGradeOf}
 use Rattle.grades.proofs.Greatest.{grade_is}

@@ -13,8 +13,8 @@ use Rattle.grades.proofs.Greatest.{greatest_within}
 use Rattle.load.specs.LoadMinute.{printed_load, printed_load_seconds, minutes_in, seconds_over}
 use Rattle.load.proofs.EveryFire.{printed_most, printed_seconds_most}
 use Rattle.ratings.specs.Answers.{load_grade, ei_grade, rei_grade}
-use Rattle.card_text.specs.Text.{text_line, after, first_number, second_number, number_after_colon}
-use Rattle.card_text.proofs.Reading.{after_line, after_time, first_number_lem, second_number_lem, time_minutes, time_seconds}
+use Rattle.text_lines.specs.Text.{text_line, after, first_number, second_number, number_after_colon}
+use Rattle.text_lines.proofs.Reading.{after_line, after_time, first_number_lem, second_number_lem, time_minutes, time_seconds}
 use Rattle.fire_card.specs.Card.{card_head, char_head, load_head, time_head, ei_head, rei_head, char_line, load_line, seconds_line, ei_line, rei_line, text_of_card}
 use Rattle.demands.specs.Demand3.{from_load, printed_minute}
 use Rattle.demands.specs.Seconds.{from_time, minutes_on_card, seconds_on_card}

@@ -7,8 +7,8 @@ use native.Mathlib.Nat.{eq-or-lt_of_le}
 use Rattle.panel.specs.declared.Panel.{Panel}
 use Rattle.panel.specs.Faces.{turned}
 use Rattle.panel.proofs.Turning.{every_holds}
-use Rattle.limits.specs.Refusals.{panel_refusal}
-use Rattle.limits.proofs.Turned.{refusal_turned}
+use Rattle.refusals.specs.Refusals.{panel_refusal}
+use Rattle.refusals.proofs.Turned.{refusal_turned}
 use Rattle.load.specs.Failure.{TimePasses, EveryFirePasses, PassesUpTo, NotAboveFailure, AboveFailure}
 use Rattle.load.specs.LoadMinute.{load_seconds, printed_load_seconds, minutes_in, seconds_over}
 use Rattle.load.proofs.WholeParts.{whole_exactly}

@@ -6,12 +6,12 @@ use Rattle.panel.specs.Faces.{fires, InEvery, least_of}
 use Rattle.load.specs.Failure.{TimePasses, EveryFirePasses, PassesUpTo, NotAboveFailure, AboveFailure}
 use Rattle.load.specs.LoadMinute.{load_minute}
 use Rattle.load.specs.Exposure.{NotEnlarged}
-use Rattle.card_text.specs.Text.{after, first_number}
+use Rattle.text_lines.specs.Text.{line_feed, after, first_number}
 use Rattle.demands.specs.EveryCard.{OfEveryCard}
 
 -- the card from its line R on, which comes after five line feeds
 abbrev pub from_load : List ℕ → List ℕ
-from_load text = after 10 (after 10 (after 10 (after 10 (after 10 text))))
+from_load text = after line_feed (after line_feed (after line_feed (after line_feed (after line_feed text))))
 
 -- the printed load minute: the first number on that line
 abbrev pub printed_minute : List ℕ → ℕ

@@ -5,7 +5,7 @@ use Rattle.panel.specs.Faces.{fires, least_of}
 use Rattle.layers.specs.Layers.{ei_minute}
 use Rattle.grades.specs.Grades.{IsGradeOf}
 use Rattle.ratings.specs.Answers.{rei_grade}
-use Rattle.card_text.specs.Text.{after, first_number, second_number}
+use Rattle.text_lines.specs.Text.{line_feed, after, first_number, second_number}
 use Rattle.demands.specs.EveryCard.{OfEveryCard}
 use Rattle.demands.specs.Demand3.{from_load, printed_minute}
 use Rattle.demands.specs.Seconds.{from_time}
@@ -16,7 +16,7 @@ load_grade_on_card text = second_number (from_load text)
 
 -- the two numbers on the line EI, which comes after seven line feeds
 abbrev pub from_ei : List ℕ → List ℕ
-from_ei text = after 10 (from_time text)
+from_ei text = after line_feed (from_time text)
 
 abbrev pub ei_on_card : List ℕ → ℕ
 ei_on_card text = first_number (from_ei text)
@@ -26,7 +26,7 @@ ei_grade_on_card text = second_number (from_ei text)
 
 -- and the one on the line REI, after eight
 abbrev pub rei_on_card : List ℕ → ℕ
-rei_on_card text = first_number (after 10 (from_ei text))
+rei_on_card text = first_number (after line_feed (from_ei text))
 
 -- what is asked of a panel and the text of its card
 pub record RatingsOf (p : Panel) (text : List ℕ) : Type 0 where

@@ -5,13 +5,13 @@ use Rattle.panel.specs.declared.Panel.{Panel}
 use Rattle.panel.specs.Faces.{fires, InEvery, least_of}
 use Rattle.load.specs.Failure.{TimePasses, EveryFirePasses, PassesUpTo, NotAboveFailure, AboveFailure}
 use Rattle.load.specs.LoadMinute.{load_seconds, minutes_in, seconds_over}
-use Rattle.card_text.specs.Text.{after, first_number, number_after_colon}
+use Rattle.text_lines.specs.Text.{line_feed, after, first_number, number_after_colon}
 use Rattle.demands.specs.EveryCard.{OfEveryCard}
 use Rattle.demands.specs.Demand3.{from_load, printed_minute}
 
 -- the two numbers on the card's line RS, which comes after six line feeds: the one in its first field, and the one after the colon
 abbrev pub from_time : List ℕ → List ℕ
-from_time text = after 10 (from_load text)
+from_time text = after line_feed (from_load text)
 
 abbrev pub minutes_on_card : List ℕ → ℕ
 minutes_on_card text = first_number (from_time text)

@@ -6,8 +6,8 @@ use native.Mathlib.Omega.{arith}
 use Rattle.panel.specs.declared.Panel.{Panel}
 use Rattle.panel.specs.Faces.{shown}
 use Rattle.charring.specs.Depths.{micrometres_at, tenths_at}
-use Rattle.card_text.specs.Text.{text_line}
-use Rattle.card_text.proofs.Lengths.{length_line, length_time}
+use Rattle.text_lines.specs.Text.{text_line}
+use Rattle.text_lines.proofs.Lengths.{length_line, length_time}
 use Rattle.fire_card.specs.Card.{card_head, char_head, load_head, time_head, ei_head, rei_head, char_line, char_lines, load_line, seconds_line, ei_line, rei_line, rating_lines, text_of_card, card_most}
 
 both_most : (xs ys : List ℕ) (m n : ℕ) → length xs ≤ m → length ys ≤ n → length (xs ++ ys) ≤ m + n

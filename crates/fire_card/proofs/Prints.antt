@@ -6,7 +6,7 @@ use native.Mathlib.Omega.{arith}
 use native.Mathlib.Decide.{dec_le}
 use lib.ListN.{length, take, length-take}
 use lib.Seq.{take_all}
-use Rattle.limits.proofs.FirstLine.{refused, answered}
+use Rattle.refusals.proofs.FirstLine.{refused, answered}
 use Rattle.record.specs.Layouts.{panel_of}
 use Rattle.record.specs.Refusals.{record_refusal}
 use Rattle.record.proofs.Sound.{too_long}

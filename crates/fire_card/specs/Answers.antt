@@ -1,13 +1,14 @@
 -- What the open calls of this crate answer, by document 01's number, and what they leave in the lent space.
-use Rattle.std.specs.Prelude.{ℕ, List, [], ◌∷◌, ◌++◌, length, drop, ltb, Result}
-use Rattle.limits.specs.Lines.{Line, line, refusal, answer, unless_refused}
+use Rattle.std.specs.Prelude.{ℕ, List, [], ◌∷◌, ◌++◌, length, drop, Result}
+use Rattle.refusals.specs.Lines.{Line, line, refusal, answer, unless_refused}
+use Rattle.refusals.specs.Causes.{bad_space}
 use Rattle.record.specs.Layouts.{panel_of}
 use Rattle.record.specs.Refusals.{record_lines}
 use Rattle.fire_card.specs.Card.{text_of_card, refusal_text}
 
 -- 14, lent space: "fewer bytes than the .. card written"
 abbrev pub short_line : List ℕ → List ℕ → Line
-short_line text space = line 14 (ltb (length space) (length text))
+short_line text space = line 14 (bad_space (length text) (length space))
 
 -- what stands in a space after a text is written there: the text, then what stood there
 abbrev pub over : List ℕ → List ℕ → List ℕ

@@ -1,6 +1,6 @@
 -- Document 01, the printed card, with what document 02, 3/14 and 5/14, adds to it.
-use Rattle.std.specs.Prelude.{ℕ, List, [], ◌∷◌, ◌++◌}
-use Rattle.card_text.specs.Text.{text_line, time_line}
+use Rattle.std.specs.Prelude.{ℕ, List, [], ◌∷◌, ◌++◌, codes}
+use Rattle.text_lines.specs.Text.{text_line, time_line}
 use Rattle.panel.specs.declared.Panel.{Panel}
 use Rattle.panel.specs.Faces.{shown}
 use Rattle.charring.specs.Depths.{micrometres_at, tenths_at}
@@ -10,33 +10,26 @@ use Rattle.ratings.specs.Answers.{load_grade, ei_grade, rei_grade}
 
 -- Line heads
 
--- CARD
 abbrev pub card_head : List ℕ
-card_head = 67 ∷ 65 ∷ 82 ∷ 68 ∷ []
+card_head = codes "CARD"
 
--- CHAR
 abbrev pub char_head : List ℕ
-char_head = 67 ∷ 72 ∷ 65 ∷ 82 ∷ []
+char_head = codes "CHAR"
 
--- R
 abbrev pub load_head : List ℕ
-load_head = 82 ∷ []
+load_head = codes "R"
 
--- RS
 abbrev pub time_head : List ℕ
-time_head = 82 ∷ 83 ∷ []
+time_head = codes "RS"
 
--- EI
 abbrev pub ei_head : List ℕ
-ei_head = 69 ∷ 73 ∷ []
+ei_head = codes "EI"
 
--- REI
 abbrev pub rei_head : List ℕ
-rei_head = 82 ∷ 69 ∷ 73 ∷ []
+rei_head = codes "REI"
 
--- REFUSED
 abbrev pub refusal_head : List ℕ
-refusal_head = 82 ∷ 69 ∷ 70 ∷ 85 ∷ 83 ∷ 69 ∷ 68 ∷ []
+refusal_head = codes "REFUSED"
 
 -- Lines
 

@@ -1,6 +1,6 @@
 -- Document 01, "The program `card`": what is printed for the bytes of standard input.
 use Rattle.std.specs.Prelude.{ℕ, List}
-use Rattle.limits.specs.Lines.{answer}
+use Rattle.refusals.specs.Lines.{answer}
 use Rattle.record.specs.Layouts.{panel_of}
 use Rattle.record.specs.Refusals.{record_refusal}
 use Rattle.fire_card.specs.Card.{text_of_card, refusal_text}

@@ -1,18 +1,18 @@
-// The lines of a card, one after the other. No open calls: the longest card must fit. The room that each asks for stays as it is, as in
+// The lines of a card, one after the other. The longest card must fit. The room that each asks for stays as it is, as in
 // `Text`.
 ghost use Rattle.std.specs.Prelude.{◌≡◌, ◌+◌, ◌≤◌, ◌++◌, length};
-ghost use Rattle.limits.specs.Causes.{last_minute};
+ghost use Rattle.refusals.specs.Causes.{last_minute};
 ghost use Rattle.fire_card.specs.Card.{char_line, char_lines, rating_lines, text_of_card, card_most};
 
 use crate::CARD_MOST;
-use card_text::text::Text;
-use charring::{Fire, Time};
+use charring::{CharringValues, Time};
 use limits::check::Accepted;
 use load::minutes::{minutes_in, seconds_over};
 use ratings::Ratings;
+use text_lines::text::Text;
 
 // The bare minute is kept as it is: the line prints it, and the four are constants.
-fn push_char(text: &mut Text<CARD_MOST>, fire: &Fire, minute: u32)
+fn push_char(text: &mut Text<CARD_MOST>, fire: &CharringValues, minute: u32)
     requires minute_le_last_minute { minute ≤ last_minute }
     requires room { length text.old + 38 ≤ card_most }
     ensures added { text.new ≡ text.old ++ char_line fire.now.panel minute }
@@ -23,7 +23,7 @@ fn push_char(text: &mut Text<CARD_MOST>, fire: &Fire, minute: u32)
     text.push_line(b"CHAR", &[minute, char, depth]);
 }
 
-fn push_chars(text: &mut Text<CARD_MOST>, fire: &Fire)
+fn push_chars(text: &mut Text<CARD_MOST>, fire: &CharringValues)
     requires room { length text.old + 152 ≤ card_most }
     ensures added { text.new ≡ text.old ++ char_lines fire.now.panel }
     ensures most { length text.new ≤ length text.old + 152 }
@@ -55,7 +55,7 @@ pub(crate) fn text_of_card(accepted: Accepted) -> Text<CARD_MOST>
 {
     let mut text = Text::new();
     text.push_line(b"CARD", &[u32::from(accepted.panel().version)]);
-    push_chars(&mut text, &Fire::of(accepted.shown().panel()));
+    push_chars(&mut text, &CharringValues::of(accepted.shown().panel()));
     push_ratings(&mut text, &Ratings::of(accepted));
     text
 }

@@ -2,8 +2,8 @@
 use Rattle.std.specs.Prelude.{ℕ, Result, ◌||◌}
 use Rattle.grades.specs.declared.Grade.{Grade}
 use Rattle.numbers.specs.Choice.{pick}
-use Rattle.limits.specs.Lines.{unless_refused}
-use Rattle.limits.specs.Causes.{bad_minute}
+use Rattle.refusals.specs.Lines.{unless_refused}
+use Rattle.refusals.specs.Causes.{bad_minute}
 use Rattle.grades.specs.Grades.{grade_of, rei_of}
 
 abbrev pub grade_answer : ℕ → Result Grade ℕ

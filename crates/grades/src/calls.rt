@@ -1,14 +1,14 @@
 // The open calls of this crate: they ask nothing of their caller.
 ghost use Rattle.std.specs.Prelude.{◌≡◌};
-ghost use Rattle.limits.specs.Numbers.{by_number};
+ghost use Rattle.refusals.specs.Numbers.{by_number};
 ghost use Rattle.grades.specs.Answers.{grade_answer, rei_answer};
 
 use crate::Grade;
 use limits::minute::Minute;
-use limits::refusal::Refusal;
+use refusals::refusal::Refusal;
 
 // The grade of a bare minute.
-#[tactic(auto, using(limits::proofs::FirstLine::handed_on, limits::proofs::FirstLine::worked_out))]
+#[tactic(auto, using(refusals::proofs::FirstLine::handed_on, refusals::proofs::FirstLine::worked_out))]
 pub fn grade_of(minute: u16) -> Result<Grade, Refusal>
     ensures { by_number result ≡ grade_answer minute }
 {

@@ -1,4 +1,5 @@
-// Grades of fire resistance (document 01, "Layer times"): the constants, the grade of a minute, and REI.
+// Grades of fire resistance (document 01, "Layer times"): the constants, the grade of a minute, and REI. The open calls are in
+// `calls`.
 #![tactic(auto)]
 
 pub mod calls;

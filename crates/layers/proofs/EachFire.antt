@@ -4,7 +4,7 @@ use mathlib.Core.Path.{◌≡◌, refl}
 use native.Mathlib.Omega.{arith}
 use Rattle.panel.specs.declared.Panel.{Panel}
 use Rattle.panel.specs.Faces.{turned, fires_on, fires, least_of}
-use Rattle.limits.specs.Causes.{last_minute}
+use Rattle.refusals.specs.Causes.{last_minute}
 use Rattle.basic_times.specs.Rules.{parts_per_minute}
 use Rattle.layers.specs.Layers.{ei_sum, ei_minute, printed_ei, least_sum}
 

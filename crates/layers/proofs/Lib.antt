@@ -2,4 +2,3 @@ pub mod LateTimes
 pub mod Runs
 pub mod EachFire
 pub mod Unused
-pub mod SameBuild

@@ -4,8 +4,8 @@ use Rattle.panel.specs.declared.Panel.{Panel}
 use Rattle.panel.specs.Lamellae.{SameUsed}
 use Rattle.panel.proofs.Used.{lamellae_cleared, unused}
 use Rattle.panel.proofs.Turning.{least_same}
-use Rattle.limits.specs.Lines.{unless_refused}
-use Rattle.limits.proofs.Unused.{refusal_unused}
+use Rattle.refusals.specs.Lines.{unless_refused}
+use Rattle.refusals.proofs.Unused.{refusal_unused}
 use Rattle.layers.specs.Layers.{ei_sum, ei_minute, printed_ei}
 use Rattle.layers.specs.Answers.{ei_answer, ei_sum_answer}
 

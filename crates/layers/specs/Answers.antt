@@ -1,8 +1,8 @@
 -- What the open calls of this crate answer, by document 01's number.
 use Rattle.std.specs.Prelude.{ℕ, Result}
 use Rattle.panel.specs.declared.Panel.{Panel}
-use Rattle.limits.specs.Lines.{unless_refused}
-use Rattle.limits.specs.Refusals.{panel_refusal}
+use Rattle.refusals.specs.Lines.{unless_refused}
+use Rattle.refusals.specs.Refusals.{panel_refusal}
 use Rattle.layers.specs.Layers.{printed_ei, least_sum}
 
 -- the sum of the layer times, hundredths of a minute

@@ -7,7 +7,7 @@ use Rattle.panel.specs.declared.Material.TheVariants.{Wood}
 use Rattle.panel.specs.Boards.{boards_of, material_of, whole_joint}
 use Rattle.panel.specs.Lamellae.{Lamella, lamellae}
 use Rattle.panel.specs.Faces.{fires, least_of}
-use Rattle.limits.specs.Causes.{last_minute}
+use Rattle.refusals.specs.Causes.{last_minute}
 use Rattle.basic_times.specs.declared.Role.{Role}
 use Rattle.basic_times.specs.declared.Role.TheVariants.{Protection, Insulation}
 use Rattle.basic_times.specs.Rules.{parts_per_minute, basic_time}

@@ -12,7 +12,7 @@ use basic_times::Role;
 use limits::check::Accepted;
 use panel::{Cladding, Panel};
 
-// What a lamella gave by protection: the sum before it, its thickness, and the sum with it.
+// What a lamella gave by protection: the sum before it, its thickness in tenths of mm, and the sum with it. Sums are of layer times.
 #[derive(Clone, Copy)]
 struct Given {
     before: u32,

@@ -1,4 +1,5 @@
 // Layer times and EI (document 01, "Layer times"): what each board and lamella gives, behind those before it, and their sum.
+// The open calls are in `calls`.
 #![tactic(auto)]
 
 mod added;

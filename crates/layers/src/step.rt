@@ -45,7 +45,7 @@ impl Step {
     }
 }
 
-// No open call: the sum and the time are within what layers give, and the coefficient takes at most the whole off.
+// The sum and the time are within what layers give, and the coefficient takes at most the whole off.
 pub(crate) fn layer_time(before: u32, basic: u32, joint: u8) -> u32
     requires { (before ≤ longest_sum) × ((basic ≤ longest_time) × (joint ≤ whole_joint)) }
     ensures { (result ≡ layer_time before basic joint) × (result ≤ basic) }

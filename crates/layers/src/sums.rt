@@ -28,7 +28,7 @@ fn protected(s: u32, thicknesses: &[u16], enough: u32, kept: Option<&KeptSums>) 
     sum
 }
 
-// The sum of a panel's layer times, whatever is kept; where it is enough, one that is enough too. No open call: the panel must keep the
+// The sum of a panel's layer times, whatever is kept; where it is enough, one that is enough too. The panel must keep the
 // limits of lines 8, 10 and 11. The front of the array is kept as it is: `split_last` would give an `Option` whose `None` never is.
 pub(crate) fn ei_sum_of(p: Panel, enough: u32, kept: Option<&KeptSums>) -> u32
     requires { Keeps p }

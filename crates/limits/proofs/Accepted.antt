@@ -1,14 +1,13 @@
--- What holds of a panel that no line turns back, as inequalities: the limits that later calls work within.
+-- What holds of a panel that no line refuses, as inequalities: the limits that later calls work within.
 use Rattle.std.proofs.lemmas.Bool.{or_parts}
 use Prim.Native.Nat.{ℕ, zero, suc, ◌*◌, ◌<◌, ◌≤◌}
-use mathlib.Core.Path.{◌≡◌, refl, sym, ap, subst, ◌∙◌}
+use mathlib.Core.Path.{◌≡◌, refl, subst}
 use mathlib.Core.List.{List, [], ◌∷◌}
 use mathlib.Core.Bool.{Bool, true, false, not, ◌&&◌, ◌||◌}
 use native.Mathlib.Omega.{arith}
 use borrow.Author.Tests.{ltb-false, not-false, eqb-true, eq-eqb}
 use lib.ListN.{length, get_or}
 use lib.Dec.{ltb, eqb}
-use mathlib.Core.Logic.{◌↔◌}
 use native.Mathlib.Nat.{le_trans, le-add_right}
 use Rattle.numbers.specs.Choice.{pick, outside}
 use Rattle.numbers.proofs.Booleans.{not_both, in_range}
@@ -23,41 +22,13 @@ use Rattle.panel.specs.Materials.{thinnest, thickest, bad_thickness}
 use Rattle.panel.specs.Boards.{known, wood_based, material_of, is_f, type_f, whole_joint, gap_loss, inner_gain, charring_start}
 use Rattle.panel.proofs.Used.{length_lamellae_of, get_or_lamellae_of}
 use Rattle.panel.proofs.Thicknesses.{thinnest_least}
-use Rattle.section.specs.Tests.{SectionFits, depth_passes}
-use Rattle.limits.specs.declared.ByteFaults.{ByteFaults}
-use Rattle.limits.specs.Lines.{line, refusal, NoneFits, cause_of, down_to, First}
-use Rattle.limits.specs.Causes.{bad_load, bad_types, bad_board, bad_boards, bad_count, bad_lamella, bad_lamellae, bad_section, some}
-use Rattle.limits.specs.Refusals.{no_bytes, table_lines, panel_lines, panel_refusal, refusal_to12}
+use Rattle.section.specs.Tests.{SectionFits}
+use Rattle.refusals.specs.Lines.{down_to}
+use Rattle.refusals.specs.Causes.{bad_types, bad_board, bad_boards, bad_lamella, some}
+use Rattle.refusals.specs.Refusals.{panel_lines, panel_refusal, refusal_before_section}
 use Rattle.limits.specs.Keeps.{ThicknessKeeps, TypesKeep, BoardKeeps, CladdingKeeps, LamellaKeeps, LamellaeKeep, ThicknessesKeep, Keeps, StartWhole}
-use Rattle.limits.proofs.FirstLine.{accepted_iff, refusal_first, cause_none, open_above, open_both}
-
--- what lines 5, 10 and 11 leave: the section test fits its numbers
-pub section_fits : (p : Panel) → bad_load p ≡ false → bad_count p.count ≡ false → bad_lamellae p ≡ false → SectionFits p
-section_fits p five ten eleven =
-    let load = or_parts (outside 1 400 p.strength) (ltb 1000000 p.moment) five in
-    record {
-      strength = (in_range 1 400 p.strength load.0).1;
-      moment = ltb-false 1000000 p.moment load.1;
-      count = (in_range 1 9 p.count ten).1;
-      thickness =
-          ltb-false 4000 (thickness (lamellae p)) (or_parts (some bad_lamella (lamellae p)) (ltb 4000 (thickness (lamellae p))) eleven).1;
-    }
-
--- Accepted panels
-
--- "the first refusal .. that fits": a panel is accepted exactly when no line fits, and a refusal is the first line that does
-pub panel_accepted_iff : (p : Panel) → (panel_refusal p ≡ 0) ↔ NoneFits (panel_lines p)
-unfolding panel_refusal
-panel_accepted_iff p = accepted_iff (panel_lines p) tt
-
-pub panel_first : (p : Panel) → (panel_refusal p ≡ 0 → ⊥) → First (panel_lines p) (panel_refusal p)
-unfolding panel_refusal
-panel_first p ne = refusal_first (panel_lines p) ne
-
--- an accepted panel meets no line, whatever its number
-pub accepted_cause : (p : Panel) → panel_refusal p ≡ 0 → (n : ℕ) → cause_of n (panel_lines p) ≡ false
-unfolding panel_refusal
-accepted_cause p e = cause_none (panel_lines p) tt e
+use Rattle.refusals.proofs.FirstLine.{cause_none}
+use Rattle.refusals.proofs.PanelTable.{section_fits, accepted_before_section}
 
 -- what each line leaves
 pub thickness_keeps : (m : Material) (h : ℕ) → bad_thickness m h ≡ false → ThicknessKeeps m h
@@ -109,9 +80,9 @@ lamellae_keep (l ∷ ls) e =
       lamellae_keep ls both.1,
     )
 
--- a panel that no line above 13 turns back keeps every limit
-pub to12_keeps : (p : Panel) → refusal_to12 p ≡ 0 → Keeps p
-unfolding refusal_to12
+-- a panel that no line above 13 refuses keeps every limit
+pub to12_keeps : (p : Panel) → refusal_before_section p ≡ 0 → Keeps p
+unfolding refusal_before_section
 to12_keeps p e =
     let none = cause_none (down_to 12 (panel_lines p)) tt e in
     let version = in_range 1 2 p.version (none 2) in
@@ -140,35 +111,12 @@ to12_keeps p e =
       each = lamellae_keep (lamellae p) thick.0;
     }
 
--- the lines above 13 turn back no accepted panel
-pub accepted_to12 : (p : Panel) → panel_refusal p ≡ 0 → refusal_to12 p ≡ 0
-unfolding panel_refusal refusal_to12
-accepted_to12 p e = (open_both (down_to 12 (panel_lines p)) (line 13 (bad_section p) ∷ []) tt e).0
-
--- where they do not turn a panel back, line 13 decides
-pub section_decides : (p : Panel) → refusal_to12 p ≡ 0 → panel_refusal p ≡ pick (bad_section p) 13 0
-unfolding panel_refusal refusal_to12
-section_decides p e = sym (open_above (down_to 12 (panel_lines p)) (line 13 (bad_section p) ∷ []) tt refl e refl)
-
 -- an accepted panel keeps every limit
 pub accepted_keeps : (p : Panel) → panel_refusal p ≡ 0 → Keeps p
-accepted_keeps p e = to12_keeps p (accepted_to12 p e)
+accepted_keeps p e = to12_keeps p (accepted_before_section p e)
 
 pub accepted_fits : (p : Panel) → panel_refusal p ≡ 0 → SectionFits p
 accepted_fits p e = (accepted_keeps p e).section
-
--- an accepted panel passes at depth 0
-pub accepted_passes : (p : Panel) → panel_refusal p ≡ 0 → depth_passes p 0 ≡ true
-accepted_passes p e = not-false (depth_passes p 0) (accepted_cause p e 13)
-
--- where the table of a panel in its bytes refuses nothing, the panel alone is accepted
-pub table_accepted : (f : ByteFaults) (p : Panel) → refusal (table_lines f p) ≡ 0 → panel_refusal p ≡ 0
-unfolding panel_refusal
-table_accepted f p e =
-    let none = cause_none (table_lines f p) tt e in
-    let ten = or_parts f.lamella_count (bad_count p.count) (none 10) in
-    let same : no_bytes ≡ f = sym (λ i. record { length = none 1 i; board_count = none 6 i; lamella_count = ten.0 i }) in
-    ap (λ (g : ByteFaults). refusal (table_lines g p)) same ∙ e
 
 -- Lamellae by their place
 

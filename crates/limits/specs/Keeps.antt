@@ -1,4 +1,4 @@
--- What lines 2 to 11 and 16 leave of a panel that none of them turns back, as inequalities: the one record of limits that the other crates
+-- What lines 2 to 11 and 16 leave of a panel that none of them refuses, as inequalities: the one record of limits that the other crates
 -- work within. What their inner functions ask for are parts of it.
 use Rattle.std.specs.Prelude.{ℕ, ◌+◌, ◌*◌, ◌<◌, ◌≤◌, ◌≡◌, true, false, List, [], ◌∷◌, get_or}
 use Rattle.panel.specs.declared.Board.{Board}

@@ -2,16 +2,16 @@
 ghost use Rattle.std.specs.Prelude.{◌≡◌, ℕ};
 ghost use Rattle.panel.specs.declared.Panel.{Panel};
 ghost use Rattle.panel.specs.Faces.{turned, shown, fires, least_of};
-ghost use Rattle.limits.specs.Numbers.{by_number};
-ghost use Rattle.limits.specs.Lines.{refusal, unless_refused};
-ghost use Rattle.limits.specs.Refusals.{table_lines, panel_refusal};
+ghost use Rattle.refusals.specs.Numbers.{by_number};
+ghost use Rattle.refusals.specs.Lines.{refusal, unless_refused};
+ghost use Rattle.refusals.specs.Refusals.{table_lines, panel_refusal};
 ghost use Rattle.limits.specs.Keeps.{Keeps};
 ghost use Rattle.limits.specs.Answers.{accepted_answer};
 
-use crate::refusal::Refusal;
-use crate::table::check_table;
-use crate::{ByteFaults, NO_BYTES};
 use panel::{Panel, faces};
+use refusals::refusal::Refusal;
+use refusals::table::check_table;
+use refusals::{ByteFaults, NO_BYTES};
 use std::marker::Model;
 
 // In clauses it is the panel.
@@ -26,7 +26,7 @@ impl Model for Accepted {
     ghost Value = { Panel };
 
     ghost use Rattle.std.specs.Prelude.{◌≡◌};
-    ghost use Rattle.limits.specs.Refusals.{panel_refusal};
+    ghost use Rattle.refusals.specs.Refusals.{panel_refusal};
 
     ghost view = { λ a. a.panel };
 
@@ -45,7 +45,7 @@ impl Accepted {
         Ok(Accepted { panel: p })
     }
 
-    // A panel of which it is known. No open call: no line may refuse it.
+    // A panel of which it is known. No line may refuse it.
     pub fn known(p: Panel) -> Accepted
         requires { panel_refusal p ≡ 0 }
         ensures { result ≡ p }
@@ -87,7 +87,7 @@ impl Accepted {
         }
     }
 
-    // The lesser of what is worked out of each fire, given as the panel that has it on its first face. No open call: it must be worked out
+    // The lesser of what is worked out of each fire, given as the panel that has it on its first face. It must be worked out
     // of every accepted panel. The u32, which holds sums and seconds, is kept as it is: the definitions are numbers, and the least of a type
     // parameter would be by an order of its own. The face is kept as it is, a raw number of the panel.
     pub fn least_of_fires<F: Fn(Accepted) -> u32>(self, of: F) -> u32

@@ -1,12 +1,12 @@
 // A minute that a call may be asked for, and that a card gives: at most 360.
 ghost use Rattle.std.specs.Prelude.{◌≡◌, ◌≤◌, min};
-ghost use Rattle.limits.specs.Numbers.{by_number};
-ghost use Rattle.limits.specs.Causes.{last_minute};
+ghost use Rattle.refusals.specs.Numbers.{by_number};
+ghost use Rattle.refusals.specs.Causes.{last_minute};
 ghost use Rattle.limits.specs.Answers.{minute_answer};
 
 use crate::LAST_MINUTE;
-use crate::refusal::Refusal;
-use crate::table::refuse_if;
+use refusals::refusal::Refusal;
+use refusals::table::refuse_if;
 use std::marker::Model;
 
 // In clauses it is the number. It stays as it is beside grades' `Grade`: not every minute is a grade.
@@ -21,7 +21,7 @@ impl Model for Minute {
     ghost Value = { ℕ };
 
     ghost use Rattle.std.specs.Prelude.{◌≤◌};
-    ghost use Rattle.limits.specs.Causes.{last_minute};
+    ghost use Rattle.refusals.specs.Causes.{last_minute};
 
     ghost view = { λ m. m.number };
 
@@ -39,7 +39,7 @@ impl Minute {
         Ok(Minute { number })
     }
 
-    // No open call: at most 360.
+    // At most 360.
     pub fn of(number: u16) -> Minute
         requires { number ≤ last_minute }
         ensures { result ≡ number }

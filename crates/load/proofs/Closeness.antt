@@ -15,7 +15,8 @@ use Rattle.charring.proofs.DepthLaws.{effective_speed, tenths_later}
 use Rattle.charring.proofs.JustBefore.{just_before}
 use Rattle.load.specs.Failure.{EveryTenthPasses, TimePasses, AboveFailure, IsWholePart}
 use Rattle.load.specs.LoadMinute.{every_from}
-use Rattle.load.proofs.LoadMinutes.{PassesBy, every_tenth}
+use Rattle.load.proofs.EveryDepth.{every_tenth}
+use Rattle.load.proofs.LoadMinutes.{PassesBy}
 
 module _ (passes : ℕ → Bool) (tenths : ℕ → ℕ → ℕ)
     (later : (n q r s : ℕ) → 0 < q → 0 < s → n * s ≤ r * q → tenths n q ≤ tenths r s)

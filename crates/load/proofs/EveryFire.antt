@@ -6,12 +6,12 @@ use native.Mathlib.Omega.{arith}
 use native.Mathlib.Decide.{dec_le}
 use Rattle.panel.specs.declared.Panel.{Panel}
 use Rattle.panel.specs.Faces.{turned, fires_on, InEvery, least_of}
-use Rattle.limits.specs.Refusals.{panel_refusal}
-use Rattle.limits.proofs.Accepted.{accepted_passes}
-use Rattle.limits.proofs.Turned.{refusal_turned}
+use Rattle.refusals.specs.Refusals.{panel_refusal}
+use Rattle.refusals.proofs.PanelTable.{accepted_passes}
+use Rattle.refusals.proofs.Turned.{refusal_turned}
 use Rattle.load.specs.Failure.{TimePasses, EveryFirePasses, AboveFailure, IsWholePart}
 use Rattle.load.specs.LoadMinute.{time_test, whole_part, load_minute, printed_load, load_seconds, printed_load_seconds, minutes_in}
-use Rattle.load.proofs.LoadMinutes.{whole_most, whole_part_is}
+use Rattle.load.proofs.LoadMinutes.{whole_most, whole_part_is, accepted_load_minute, accepted_load_seconds}
 use Rattle.load.proofs.WholeParts.{earlier_not_above, whole_unique, minutes_of_seconds}
 use Rattle.load.proofs.Closeness.{panel_next_above}
 
@@ -112,6 +112,12 @@ printed_seconds_close p e = close_on 60 (omega arith) p.face p e
 pub printed_seconds_most : (p : Panel) → printed_load_seconds p ≤ 21600
 unfolding load_seconds
 printed_seconds_most p = least_most 60 (omega arith) p.face p
+
+-- in one fire its minutes are the load minute
+pub fire_minutes : (p : Panel) → panel_refusal p ≡ 0 → minutes_in (load_seconds p) ≡ load_minute p
+fire_minutes p e =
+    whole_unique (TimePasses p) 1 (minutes_in (load_seconds p)) (load_minute p)
+    (minutes_of_seconds (TimePasses p) (load_seconds p) (accepted_load_seconds p e)) (accepted_load_minute p e)
 
 -- "Its minutes equal the printed R"
 pub minutes_printed : (p : Panel) → panel_refusal p ≡ 0 → minutes_in (printed_load_seconds p) ≡ printed_load p

@@ -7,17 +7,17 @@ use native.Mathlib.Nat.{le_trans, mul-pos, mul-lt-mul_of_pos_left}
 use lib.Dec.{T, leb, ltb, eqb, leb→le, ltb→lt, eqb→eq}
 use Rattle.numbers.proofs.Booleans.{IsTrue-true, IsTrue-false, IsTrue-left, IsTrue-right, not_both}
 use Rattle.panel.specs.declared.Panel.{Panel}
-use Rattle.panel.specs.Timber.{rate_of}
+use Rattle.panel.specs.Product.{rate_of}
 use Rattle.panel.specs.Lamellae.{lamellae, thickness}
 use Rattle.section.specs.Tests.{depth_passes}
-use Rattle.charring.specs.Fires.{tenth, failure_of}
+use Rattle.charring.specs.Rates.{tenth, failure_of}
 use Rattle.charring.specs.Depths.{full_at, effective_at, tenths_at}
 use Rattle.charring.proofs.DepthLaws.{tenths_later}
 use Rattle.charring.proofs.Rising.{tenths_rise}
 use Rattle.load.specs.Failure.{EveryTenthPasses, TimePasses, IsFailureTime}
 use Rattle.load.specs.LoadMinute.{every_from}
 use Rattle.load.specs.FailureTests.{on_tenth, last_depth, fails_right_after}
-use Rattle.load.proofs.LoadMinutes.{every_tenth}
+use Rattle.load.proofs.EveryDepth.{every_tenth}
 
 -- What the two tests say
 

@@ -1,6 +1,6 @@
 -- Passing through a minute: of an accepted panel it says whether R is at least the minute, and of any panel that depth 0 passes.
 use Rattle.std.proofs.lemmas.Bool.{false_from_ne_true}
-use Prim.Native.Nat.{ℕ, zero, suc, ◌≤◌, min}
+use Prim.Native.Nat.{ℕ, zero, suc, ◌≤◌}
 use mathlib.Core.Path.{◌≡◌, refl, sym, ap₂, ◌∙◌}
 use mathlib.Core.Bool.{Bool, true, ◌&&◌}
 use native.Mathlib.Omega.{arith}
@@ -12,24 +12,17 @@ use Rattle.panel.specs.Faces.{turned, fires_on, shown, in_every, least_of}
 use Rattle.panel.proofs.Turning.{shown_holds, every_shown}
 use Rattle.section.specs.Tests.{depth_passes}
 use Rattle.section.proofs.Mirroring.{zero_turned}
-use Rattle.limits.specs.Causes.{last_minute}
-use Rattle.limits.specs.Refusals.{panel_refusal}
-use Rattle.limits.proofs.Turned.{refusal_turned}
+use Rattle.refusals.specs.Causes.{last_minute}
+use Rattle.refusals.specs.Refusals.{panel_refusal}
+use Rattle.refusals.proofs.Turned.{refusal_turned}
 use Rattle.charring.specs.Depths.{tenths_at}
 use Rattle.load.specs.Failure.{TimePasses}
 use Rattle.load.specs.LoadMinute.{time_test, load_minute, printed_load}
 use Rattle.load.specs.Lasting.{lasts}
-use Rattle.load.proofs.LoadMinutes.{every_tenth, test_says, accepted_load_minute}
+use Rattle.load.proofs.EveryDepth.{every_tenth}
+use Rattle.load.proofs.LoadMinutes.{test_says, accepted_load_minute}
 use Rattle.load.proofs.WholeParts.{earlier_not_above}
-
--- a number is at most the lesser of two where it is at most each
-at_most_both : (m a b : ℕ) → (leb m a && leb m b) ≡ leb m (min a b)
-at_most_both m a b = go (dec_le m a) (dec_le m b)
-  where
-    go : Dec (m ≤ a) → Dec (m ≤ b) → (leb m a && leb m b) ≡ leb m (min a b)
-    go (yes k) (yes l) = rw (le-leb m a k, le-leb m b l, le-leb m (min a b) (omega arith)) refl
-    go (yes k) (no l) = rw (le-leb m a k, lt-leb m b (omega arith), lt-leb m (min a b) (omega arith)) refl
-    go (no k) l = rw (lt-leb m a (omega arith), lt-leb m (min a b) (omega arith)) refl
+use Rattle.numbers.proofs.Lesser.{at_most_both}
 
 -- in one fire
 fire_by_minute : (p : Panel) (minute : ℕ) → panel_refusal p ≡ 0 → minute ≤ last_minute → time_test p minute 1 ≡ leb minute (load_minute p)

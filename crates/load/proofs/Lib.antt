@@ -1,3 +1,5 @@
+-- Every depth from one to another.
+pub mod EveryDepth
 -- R: what its test says, and that it is 01's load minute.
 pub mod LoadMinutes
 -- The last depth to which a panel passes decides for every time.

@@ -2,55 +2,24 @@
 -- may stop at the last time that passes the test. The arguments hold for any test of depths, any depths that do not fall with time, and any
 -- part of a minute.
 use Rattle.std.proofs.lemmas.Bool.{false_from_ne_true}
-use Prim.Native.Nat.{ℕ, zero, suc, ◌+◌, ◌*◌, ◌≤◌, ◌<◌}
-use mathlib.Core.Path.{◌≡◌, sym, ap, ◌∙◌}
-use mathlib.Core.Bool.{Bool, true, false, ◌&&◌}
-use mathlib.Core.Logic.{◌↔◌, ⊎_elim}
+use Prim.Native.Nat.{ℕ, suc, ◌*◌, ◌≤◌, ◌<◌}
+use mathlib.Core.Path.{◌≡◌}
+use mathlib.Core.Bool.{Bool, true, false}
+use mathlib.Core.Logic.{◌↔◌}
 use native.Mathlib.Omega.{arith}
-use native.Mathlib.Nat.{le_refl, le_trans, mul-le-mul_right, eq-or-lt_of_le}
-use Rattle.numbers.proofs.Booleans.{and_left, and_right, not_both}
+use native.Mathlib.Nat.{le_refl, le_trans, mul-le-mul_right}
+use Rattle.numbers.proofs.Booleans.{not_both}
 use Rattle.numbers.proofs.LargestKept.{largest_last, largest_keeps, largest_greatest, largest_within}
 use Rattle.panel.specs.declared.Panel.{Panel}
 use Rattle.section.specs.Tests.{depth_passes}
-use Rattle.limits.specs.Refusals.{panel_refusal}
-use Rattle.limits.proofs.Accepted.{accepted_passes}
+use Rattle.refusals.specs.Refusals.{panel_refusal}
+use Rattle.refusals.proofs.PanelTable.{accepted_passes}
 use Rattle.charring.specs.Depths.{tenths_at}
 use Rattle.charring.proofs.DepthBounds.{tenths_zero}
 use Rattle.charring.proofs.DepthLaws.{tenths_later}
+use Rattle.load.proofs.EveryDepth.{every_tenth}
 use Rattle.load.specs.Failure.{EveryTenthPasses, TimePasses, PassesUpTo, IsWholePart, IsLoadMinute, IsLoadSeconds}
 use Rattle.load.specs.LoadMinute.{every_from, time_test, whole_part, load_minute, load_seconds}
-
--- Depths
-
--- each depth from `first` to `last` passes
-abbrev EachPasses : (ℕ → Bool) → ℕ → ℕ → Type 0
-EachPasses passes first last = (depth : ℕ) → first ≤ depth → depth ≤ last → passes depth ≡ true
-
-every_from_lem : (passes : ℕ → Bool) (first more : ℕ) → (every_from passes first more ≡ true) ↔ EachPasses passes first (first + more)
-unfolding every_from
-every_from_lem passes first zero = (λ e d l u. ap passes (let z : d ≡ first = omega arith in z) ∙ e, λ h. h first (omega arith) (omega arith))
-every_from_lem passes first (suc more) = (sound (every_from_lem passes (suc first) more).0, complete (every_from_lem passes (suc first) more).1)
-  where
-    sound :
-        (every_from passes (suc first) more ≡ true → EachPasses passes (suc first) (suc first + more))
-        → (passes first && every_from passes (suc first) more) ≡ true → EachPasses passes first (first + suc more)
-    sound rest e d l u =
-        ⊎_elim (λ (same : first ≡ d). ap passes (sym same) ∙ and_left (passes first) (every_from passes (suc first) more) e)
-        (λ (less : first < d). rest (and_right (passes first) (every_from passes (suc first) more) e) d less (omega arith))
-        (eq-or-lt_of_le l)
-
-    complete :
-        (EachPasses passes (suc first) (suc first + more) → every_from passes (suc first) more ≡ true)
-        → EachPasses passes first (first + suc more) → (passes first && every_from passes (suc first) more) ≡ true
-    complete rest h =
-        ap (λ (t : Bool). t && every_from passes (suc first) more) (h first (omega arith) (omega arith))
-        ∙ rest (λ d l u. h d (omega arith) (omega arith))
-
--- from depth 0 on
-pub every_tenth : (passes : ℕ → Bool) (deepest : ℕ) → (every_from passes 0 deepest ≡ true) ↔ EveryTenthPasses passes deepest
-every_tenth passes deepest =
-    let s = every_from_lem passes 0 deepest in
-    (λ e d u. s.0 e d (omega arith) (omega arith), λ h. s.1 (λ d l u. h d (omega arith)))
 
 -- Times
 

@@ -14,7 +14,7 @@ use mir.Syntax.{w32}
 use mir.Val.{SFits, to_z}
 use mir.Facts.{to_z_pos}
 use Rattle.panel.specs.declared.Panel.{Panel}
-use Rattle.limits.specs.Refusals.{panel_refusal}
+use Rattle.refusals.specs.Refusals.{panel_refusal}
 use Rattle.load.specs.Failure.{EveryFirePasses, PassesUpTo}
 use Rattle.load.specs.LoadMinute.{printed_load}
 use Rattle.load.specs.Answers.{reserve_of}

@@ -1,10 +1,10 @@
 -- What the open calls of this crate answer, by document 01's number.
 use Rattle.std.specs.Prelude.{ℕ, ℤ, pos, ◌-ℤ◌, Result}
 use Rattle.panel.specs.declared.Panel.{Panel}
-use Rattle.limits.specs.Lines.{unless_refused}
+use Rattle.refusals.specs.Lines.{unless_refused}
 use Rattle.load.specs.declared.MinutesAndSeconds.{MinutesAndSeconds}
-use Rattle.limits.specs.Refusals.{panel_refusal}
-use Rattle.charring.specs.Answers.{minute_refusal}
+use Rattle.refusals.specs.Refusals.{panel_refusal}
+use Rattle.limits.specs.Asked.{minute_refusal}
 use Rattle.load.specs.LoadMinute.{printed_load, printed_load_seconds, minutes_in, seconds_over}
 
 -- the load minute

@@ -4,7 +4,7 @@ use Rattle.std.specs.Prelude.{ℕ, ◌*◌, ◌≤◌, ◌<◌, ◌≡◌, Bool,
 use Rattle.panel.specs.declared.Panel.{Panel}
 use Rattle.panel.specs.Faces.{fires, InEvery}
 use Rattle.section.specs.Tests.{depth_passes}
-use Rattle.limits.specs.Causes.{last_minute}
+use Rattle.refusals.specs.Causes.{last_minute}
 use Rattle.charring.specs.Depths.{tenths_at}
 
 -- every depth from 0 to `deepest`, in whole tenths of mm, passes

@@ -2,10 +2,10 @@
 -- what it holds of is the failure time.
 use Rattle.std.specs.Prelude.{ℕ, suc, ◌*◌, Bool, not, ◌&&◌, leb, ltb, eqb}
 use Rattle.panel.specs.declared.Panel.{Panel}
-use Rattle.panel.specs.Timber.{rate_of}
+use Rattle.panel.specs.Product.{rate_of}
 use Rattle.panel.specs.Lamellae.{lamellae, thickness}
 use Rattle.section.specs.Tests.{depth_passes}
-use Rattle.charring.specs.Fires.{tenth, failure_of}
+use Rattle.charring.specs.Rates.{tenth, failure_of}
 use Rattle.charring.specs.Depths.{full_at, effective_at, tenths_at}
 use Rattle.load.specs.LoadMinute.{every_from}
 

@@ -1,11 +1,11 @@
 -- Document 01, "Remaining section": R, the load minute, as a number; and document 02, 5/14, the same in seconds, RS. That they are what
 -- `IsLoadMinute` and `IsLoadSeconds` mean is a theorem (LoadMinutes in proofs/).
-use Rattle.std.specs.Prelude.{ℕ, zero, suc, ◌*◌, ◌/◌, ◌%◌, Bool, ◌&&◌}
+use Rattle.std.specs.Prelude.{ℕ, zero, suc, ◌-◌, ◌*◌, ◌/◌, ◌%◌, Bool, ◌&&◌}
 use Rattle.numbers.specs.Largest.{largest}
 use Rattle.panel.specs.declared.Panel.{Panel}
 use Rattle.panel.specs.Faces.{fires, least_of}
 use Rattle.section.specs.Tests.{depth_passes}
-use Rattle.limits.specs.Causes.{last_minute}
+use Rattle.refusals.specs.Causes.{last_minute}
 use Rattle.charring.specs.Depths.{tenths_at}
 use Rattle.load.specs.Failure.{seconds_per_minute}
 
@@ -13,6 +13,10 @@ use Rattle.load.specs.Failure.{seconds_per_minute}
 unfoldable pub every_from : (ℕ → Bool) → ℕ → ℕ → Bool
 every_from passes first zero = passes first
 every_from passes first (suc more) = passes first && every_from passes (suc first) more
+
+-- whether each depth from `first` through `last` passes, both ends in, where `first` is no deeper than `last`
+abbrev pub every_through : (ℕ → Bool) → ℕ → ℕ → Bool
+every_through passes first last = every_from passes first (last - first)
 
 -- whether the time n/q passes: "every tenth from 0 to its effective depth, rounded up, passes". The earlier times then pass too
 unfoldable pub time_test : Panel → ℕ → ℕ → Bool

@@ -1,18 +1,18 @@
 // The open calls of this crate: they ask nothing of their caller.
 ghost use Rattle.std.specs.Prelude.{◌≡◌};
-ghost use Rattle.limits.specs.Numbers.{by_number};
+ghost use Rattle.refusals.specs.Numbers.{by_number};
 ghost use Rattle.load.specs.Answers.{load_answer, load_time_answer, reserve_answer, reserve_of};
 
 use crate::MinutesAndSeconds;
 use crate::minutes::{load_minute_of, load_seconds_of, minutes_in, seconds_over};
-use charring::calls::asked;
+use limits::asked::asked;
 use limits::check::Accepted;
 use limits::minute::Minute;
-use limits::refusal::Refusal;
 use panel::Panel;
+use refusals::refusal::Refusal;
 
 // The load minute. The check and the step stay as they are: see `ei` (layers).
-#[tactic(auto, using(limits::proofs::FirstLine::handed_on, limits::proofs::FirstLine::worked_out), unfolding(crate::specs::Answers::load_answer, limits::specs::Answers::accepted_answer))]
+#[tactic(auto, using(refusals::proofs::FirstLine::handed_on, refusals::proofs::FirstLine::worked_out), unfolding(crate::specs::Answers::load_answer, limits::specs::Answers::accepted_answer))]
 pub fn load_minute(p: Panel) -> Result<u16, Refusal>
     ensures { by_number result ≡ load_answer p }
 {
@@ -21,7 +21,7 @@ pub fn load_minute(p: Panel) -> Result<u16, Refusal>
 }
 
 // The failure time in whole minutes and seconds.
-#[tactic(auto, using(limits::proofs::FirstLine::handed_on, limits::proofs::FirstLine::worked_out), unfolding(crate::specs::Answers::load_time_answer, limits::specs::Answers::accepted_answer))]
+#[tactic(auto, using(refusals::proofs::FirstLine::handed_on, refusals::proofs::FirstLine::worked_out), unfolding(crate::specs::Answers::load_time_answer, limits::specs::Answers::accepted_answer))]
 pub fn load_time(p: Panel) -> Result<MinutesAndSeconds, Refusal>
     ensures { by_number result ≡ load_time_answer p }
 {

@@ -2,7 +2,8 @@
 ghost use Rattle.std.specs.Prelude.{◌≡◌};
 ghost use Rattle.load.specs.LoadMinute.{printed_load, printed_load_seconds, minutes_in, seconds_over};
 
-use crate::scan::fire_seconds;
+use crate::SECONDS_PER_MINUTE;
+use crate::seconds::fire_seconds;
 use limits::check::Accepted;
 use limits::minute::Minute;
 
@@ -19,7 +20,7 @@ pub fn load_seconds_of(accepted: Accepted) -> u16
 pub fn minutes_in(seconds: u16) -> u16
     ensures { result ≡ minutes_in seconds }
 {
-    seconds / 60
+    seconds / SECONDS_PER_MINUTE
 }
 
 // The seconds over these minutes.
@@ -27,7 +28,7 @@ pub fn seconds_over(seconds: u16) -> u8
     ensures { result ≡ seconds_over seconds }
 {
     // The cast is kept as it is: `try_from` would add a branch that never runs.
-    (seconds % 60) as u8
+    (seconds % SECONDS_PER_MINUTE) as u8
 }
 
 // The load minute.

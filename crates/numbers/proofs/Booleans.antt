@@ -9,6 +9,7 @@ use native.Mathlib.Omega.{arith}
 use borrow.Author.Tests.{ltb-false}
 use lib.Dec.{T, ltb}
 use Rattle.numbers.specs.Choice.{outside}
+use mathlib.Core.Logic.{◌⊎◌, inl, inr}
 
 -- What holds of a test that is true
 
@@ -27,6 +28,10 @@ IsTrue-left false b t = elim t [ ]
 pub IsTrue-right : (a b : Bool) → T (a && b) → T b
 IsTrue-right true b t = t
 IsTrue-right false b t = elim t [ ]
+
+pub IsTrue-either : (a b : Bool) → T (a || b) → T a ⊎ T b
+IsTrue-either true b t = inl t
+IsTrue-either false b t = inr t
 
 -- no test is both
 pub not_both : (a : Bool) → a ≡ true → a ≡ false → ⊥

@@ -5,9 +5,10 @@ use mathlib.Core.List.{List, [], ◌∷◌, ◌++◌, append_assoc}
 use native.Mathlib.Nat.{div-add-mod', pow-succ', zero-add, add_assoc}
 use native.Mathlib.Omega.{arith}
 use lib.Arith.{digits_div, digits_mod, digits_lt}
-use lib.ListN.{length, get_or, length-append}
+use lib.ListN.{length, get_or, length-append, drop}
 use Rattle.numbers.specs.Bytes.{places, number, bytes, fields, join, span, AreBytes}
 use Rattle.numbers.proofs.Places.{get_or_cons, places_append}
+use lib.Seq.{get_or-drop}
 
 -- a byte in front moves every place up by one
 number_cons : (x : ℕ) (l : List ℕ) (at w : ℕ) → number (x ∷ l) (at + 1) w ≡ number l at w
@@ -95,3 +96,7 @@ pub join_fields : (ws b : List ℕ) → AreBytes b → (at : ℕ) → join ws (f
 join_fields [] b h at = refl
 join_fields (w ∷ ws) b h at =
     ap₂ (λ (xs ys : List ℕ). xs ++ ys) (bytes_number b h at w) (join_fields ws b h (at + w)) ∙ sym (places_append b at w (span ws))
+
+-- a part of bytes is bytes
+pub drop_bytes : (b : List ℕ) → AreBytes b → (k : ℕ) → AreBytes (drop k b)
+drop_bytes b h k i = rw get_or-drop (h (k + i))

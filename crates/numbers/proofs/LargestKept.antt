@@ -44,21 +44,6 @@ largest_by_next test down v e f =
     go m h true k = absurd (not_both (test (suc v)) (down (suc v) m h k) f)
     go m h false k = k
 
--- and for such a test what a search finds that takes 0 untested: a number that keeps it, or 0, and the next does not, or is past the bound
-pub largest_searched :
-    (test : ℕ → Bool) → ((m n : ℕ) → m ≤ n → test n ≡ true → test m ≡ true) → test 0 ≡ true
-    → (bound v : ℕ) → v ≤ bound → (0 < v → test v ≡ true) → (v < bound → test (v + 1) ≡ false) → v ≡ largest test bound
-largest_searched test down zero_kept bound v h kept next =
-    sym (largest_last test bound v h (here v kept) (λ m l u. beyond m l u (test m) refl))
-  where
-    here : (n : ℕ) → (0 < n → test n ≡ true) → test n ≡ true
-    here zero k = zero_kept
-    here (suc n) k = k (omega arith)
-
-    beyond : (m : ℕ) → v < m → m ≤ bound → (b : Bool) → test m ≡ b → test m ≡ false
-    beyond m l u true k = absurd (not_both (test (v + 1)) (down (v + 1) m (omega arith) k) (next (omega arith)))
-    beyond m l u false k = k
-
 -- what is found keeps the test where 0 does
 pub largest_keeps : (test : ℕ → Bool) (bound : ℕ) → test 0 ≡ true → test (largest test bound) ≡ true
 unfolding largest

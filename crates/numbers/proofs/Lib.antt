@@ -1,9 +1,11 @@
--- Tests, every case of an enum, products and the largest and the least number that keep a test.
+-- Tests, every case of an enum, products, and the largest and the least number that keep a test, searched too.
 pub mod Booleans
 pub mod EveryCase
 pub mod Products
+pub mod Lesser
 pub mod LargestKept
 pub mod LeastKept
+pub mod Searching
 -- Lists: first values, parts and stores.
 pub mod FirstValues
 pub mod Lists

@@ -1,7 +1,38 @@
--- A bound on a product from bounds on its factors. It is kept as it is beside `mul-le-mul`: all numbers are written out, so that omega can
--- be handed it.
-use Prim.Native.Nat.{ℕ, ◌*◌, ◌≤◌}
-use native.Mathlib.Nat.{mul-le-mul}
+-- Products: bounds from bounds on the factors, and a factor that goes into others. What stands in the kit too, as `mul-le-mul`, is kept as it
+-- is: all numbers are written out, so that omega can be handed it.
+use Prim.Native.Nat.{ℕ, ◌*◌, ◌≤◌, ◌+◌, min, zero, suc, ◌<◌}
+use native.Mathlib.Nat.{mul-le-mul, mul-le-mul_left, mul-le-mul_right, min-eq_left, min-eq_right}
+use mathlib.Core.Path.{◌≡◌, sym, ap, ◌∙◌}
+use native.Mathlib.Omega.{arith}
+use native.Mathlib.Decide.{dec_le}
 
 pub times : (a A b B : ℕ) → a ≤ A → b ≤ B → a * b ≤ A * B
 times a A b B h k = mul-le-mul h k
+
+pub square_rises : (a b : ℕ) → a ≤ b → a * a ≤ b * b
+square_rises a b h = mul-le-mul h h
+
+pub cube_rises : (a b : ℕ) → a ≤ b → a * a * a ≤ b * b * b
+cube_rises a b h = mul-le-mul (mul-le-mul h h) h
+
+-- a factor goes into `min`
+pub mul_min : (k a b : ℕ) → k * min a b ≡ min (k * a) (k * b)
+mul_min k a b = go (dec_le a b)
+  where
+    go : Dec (a ≤ b) → k * min a b ≡ min (k * a) (k * b)
+    go (yes h) = ap (λ (x : ℕ). k * x) (min-eq_left h) ∙ sym (min-eq_left (mul-le-mul_left k h))
+    go (no h) =
+        let l : b ≤ a = omega arith in
+        ap (λ (x : ℕ). k * x) (min-eq_right l) ∙ sym (min-eq_right (mul-le-mul_left k l))
+
+-- two parts that together grow by at most e, one at the rate r and one at a rate c no lower, grow by at most c * e
+pub two_rates : (r c a b e : ℕ) → r ≤ c → a + b ≤ e → r * a + c * b ≤ c * e
+two_rates r c a b e h k =
+    let low : r * a ≤ c * a = mul-le-mul_right a h in
+    let all : c * (a + b) ≤ c * e = mul-le-mul_left c k in
+    omega arith
+
+-- a product that is not 0
+pub positive : (x q f : ℕ) → x < q * f → 0 < f
+positive x q zero h = omega arith
+positive x q (suc f) h = omega arith

@@ -2,4 +2,5 @@ pub mod Choice
 pub mod Firsts
 pub mod Largest
 pub mod Least
+pub mod Searched
 pub mod Bytes

@@ -30,7 +30,7 @@ pub fn part_from(s: &[u8], at: usize) -> &[u8]
     &s[at.min(s.len())..]
 }
 
-// No open call: the N bytes from `at` on must be there. The place and the room are kept as they are: of an array lent in its place
+// The N bytes from `at` on must be there. The place and the room are kept as they are: of an array lent in its place
 // (`first_chunk_mut`) the caller would have an `Option`, whose `None` never comes.
 pub fn put<const N: usize>(out: &mut [u8], at: usize, bytes: [u8; N])
     requires { at + N ≤ length out.old }

@@ -1,4 +1,4 @@
--- A loop over lent lamellae: at each turn the pair of numbers is the next lamella, and after the last turn there is none left.
+-- A loop over lent lamellae: at each round the pair of numbers is the next lamella, and after the last round there is none left.
 use Prim.Native.Nat.{ℕ, ◌+◌, ◌≤◌, ◌<◌}
 use mathlib.Core.Path.{◌≡◌, refl, sym, ap, ap₂, ◌∙◌}
 use mathlib.Core.List.{List, [], ◌∷◌, map}

@@ -3,4 +3,3 @@ pub mod Lent
 pub mod Arrays
 pub mod Turning
 pub mod Thicknesses
-pub mod Builds

@@ -8,7 +8,6 @@ use lib.ListN.{length, take, replicate, length-map, length-reverse}
 use Rattle.numbers.proofs.Booleans.{and_left}
 use Rattle.panel.specs.declared.Panel.{Panel}
 use Rattle.panel.specs.Lamellae.{Lamella, lamellae, with_lamellae, nine, cleared, SameUsed, thickness}
-use Rattle.panel.specs.Builds.{SameBuild}
 use Rattle.panel.specs.Faces.{turned, fires_on, fires, shown_on, shown, InEvery, in_every, least_of}
 use Rattle.panel.proofs.Used.{length_lamellae_of, lamellae_with, lamellae_cleared, thickness_append, unused}
 
@@ -134,23 +133,3 @@ shown_same = shown_alike SameUsed face_same (λ p q h. ap cleared (turned_same p
 pub least_same :
     (f : Panel → ℕ) → ((p q : Panel) → SameUsed p q → f p ≡ f q) → (p q : Panel) → SameUsed p q → least_of f (fires p) ≡ least_of f (fires q)
 least_same = least_alike SameUsed face_same (λ p q h. ap cleared (turned_same p q h))
-
--- PANELS OF THE SAME BUILD are so from either face
-pub turned_build : (a b : Panel) → SameBuild a b → SameBuild (turned a) (turned b)
-turned_build a b h =
-    record {
-      boards = h.boards;
-      lamellae = turned_lamellae a ∙ ap reverse h.lamellae ∙ sym (turned_lamellae b);
-      face = h.face;
-      bond = h.bond;
-      rate = h.rate;
-      gap = h.gap;
-      failure_time = h.failure_time;
-    }
-
-pub shown_build : (a b : Panel) → SameBuild a b → SameBuild (shown a) (shown b)
-shown_build = shown_alike SameBuild (λ a b h. h.face) turned_build
-
-pub least_build :
-    (f : Panel → ℕ) → ((a b : Panel) → SameBuild a b → f a ≡ f b) → (a b : Panel) → SameBuild a b → least_of f (fires a) ≡ least_of f (fires b)
-least_build = least_alike SameBuild (λ a b h. h.face) turned_build

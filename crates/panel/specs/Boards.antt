@@ -1,5 +1,6 @@
 -- Document 01, "The panel record" and "Charring", and document 02, 1/14: the boards, and when charring starts behind them.
 use Rattle.std.specs.Prelude.{ℕ, ◌+◌, ◌-◌, ◌*◌, ◌/◌, List, [], ◌∷◌, Bool, true, false, ◌||◌, eqb}
+use Rattle.std.specs.Str.{byte}
 use Rattle.numbers.specs.Choice.{pick}
 use Rattle.panel.specs.declared.Board.{Board}
 use Rattle.panel.specs.declared.Cladding.{Cladding}
@@ -15,19 +16,19 @@ boards_of (Two outer inner) = outer ∷ inner ∷ []
 
 -- "type A, F or H as its ASCII letter"; "Type O (OSB, EN 300) and P (particle board, EN 312) join the letters"
 abbrev pub letter_a : ℕ
-letter_a = 65
+letter_a = byte "A"
 
 abbrev pub letter_f : ℕ
-letter_f = 70
+letter_f = byte "F"
 
 abbrev pub letter_h : ℕ
-letter_h = 72
+letter_h = byte "H"
 
 abbrev pub letter_o : ℕ
-letter_o = 79
+letter_o = byte "O"
 
 abbrev pub letter_p : ℕ
-letter_p = 80
+letter_p = byte "P"
 
 -- boards of OSB or particle board, which are wood-based
 abbrev pub wood_based : Board → Bool
@@ -36,7 +37,7 @@ wood_based b = eqb b.kind letter_o || eqb b.kind letter_p
 abbrev pub known : Board → Bool
 known b = eqb b.kind letter_a || eqb b.kind letter_f || eqb b.kind letter_h || wood_based b
 
--- what boards of a type are made of; A, F and H, and whatever line 7 turns back, count as gypsum
+-- what boards of a type are made of; A, F and H, and whatever line 7 refuses, count as gypsum
 unfoldable pub material_of : ℕ → Material
 material_of kind =
     elim (eqb kind letter_o) [

@@ -7,7 +7,7 @@ use Rattle.panel.specs.Lamellae.{lamellae, with_lamellae}
 abbrev pub turned : Panel → Panel
 turned p = with_lamellae p (reverse (lamellae p))
 
--- the fires of a panel by its face, above 2 of which line 16 turns back. A fire is given as the panel that has it on its first face, so
+-- the fires of a panel by its face, above 2 of which line 16 refuses. A fire is given as the panel that has it on its first face, so
 -- that whatever is said of a panel's depths, section, layers and load minute is said of one fire
 abbrev pub fires_on : ℕ → Panel → List Panel
 fires_on zero p = p ∷ []

@@ -34,21 +34,7 @@ thicknesses_of ls = nine (map (λ (l : Lamella). l.thickness) ls)
 
 -- a panel with other lamellae: nothing else of it changes
 abbrev pub with_lamellae : Panel → List Lamella → Panel
-with_lamellae p ls =
-    record {
-      version = p.version;
-      face = p.face;
-      bond = p.bond;
-      rate = p.rate;
-      gap = p.gap;
-      strength = p.strength;
-      moment = p.moment;
-      failure_time = p.failure_time;
-      cladding = p.cladding;
-      count = length ls;
-      directions = directions_of ls;
-      thicknesses = thicknesses_of ls;
-    }
+with_lamellae p ls = record p { count = length ls; directions = directions_of ls; thicknesses = thicknesses_of ls }
 
 -- "Unused places are .. read as 0": the panel with its unused places 0
 abbrev pub cleared : Panel → Panel

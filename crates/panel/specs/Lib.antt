@@ -2,7 +2,6 @@ pub mod Lamellae
 pub mod Lent
 pub mod Materials
 pub mod Boards
-pub mod Timber
+pub mod Product
 pub mod Faces
-pub mod Builds
 pub mod Worked

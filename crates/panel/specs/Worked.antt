@@ -4,6 +4,7 @@ use Rattle.panel.specs.declared.Board.{Board}
 use Rattle.panel.specs.declared.Cladding.{Cladding}
 use Rattle.panel.specs.declared.Cladding.TheVariants.{Unclad, One}
 use Rattle.panel.specs.declared.Panel.{Panel}
+use Rattle.panel.specs.Boards.{letter_a}
 use Rattle.panel.specs.Lamellae.{Lamella, lamella, directions_of, thicknesses_of}
 
 -- a panel of record version 1 from its numbers in the record's order (bond, β, gap, f, M, failure time), its boards and its lamellae
@@ -26,21 +27,7 @@ panel_with bond rate gap f m failure boards ls =
 
 -- a panel in record version 2, with the fire on a face
 abbrev pub on_face : ℕ → Panel → Panel
-on_face face p =
-    record {
-      version = 2;
-      face = face;
-      bond = p.bond;
-      rate = p.rate;
-      gap = p.gap;
-      strength = p.strength;
-      moment = p.moment;
-      failure_time = p.failure_time;
-      cladding = p.cladding;
-      count = p.count;
-      directions = p.directions;
-      thicknesses = p.thicknesses;
-    }
+on_face face p = record p { version = 2; face = face }
 
 -- "30 along, 40 across, 30 along (mm)"
 abbrev pub g_lamellae : List Lamella
@@ -68,8 +55,8 @@ board125 kind = board_of kind 125
 
 -- "Type A 12.5, coefficient 100, three lamellae 20"
 abbrev pub three_behind_a : Panel
-three_behind_a = panel_with 0 65 0 240 0 0 (One (board125 65)) (lamella 1 200 ∷ lamella 0 200 ∷ lamella 1 200 ∷ [])
+three_behind_a = panel_with 0 65 0 240 0 0 (One (board125 letter_a)) (lamella 1 200 ∷ lamella 0 200 ∷ lamella 1 200 ∷ [])
 
 -- "Type A 9.0, β 65, one lamella 60", and the same for another board
 abbrev pub one_behind_a : ℕ → Panel
-one_behind_a h = panel_with 0 65 0 240 0 0 (One (board_of 65 h)) (lamella 1 600 ∷ [])
+one_behind_a h = panel_with 0 65 0 240 0 0 (One (board_of letter_a h)) (lamella 1 600 ∷ [])

@@ -17,7 +17,7 @@ fn last_first<T: Copy>(places: [T; 9], count: usize, unused: T) -> [T; 9]
     turned
 }
 
-// The panel with its last face first. No open call: the count must be at most 9, which is kept as it is, as are the arrays: a panel is plain
+// The panel with its last face first. The count must be at most 9, which is kept as it is, as are the arrays: a panel is plain
 // data, and one that calls have checked is turned by `Accepted` (limits).
 pub fn turned(p: Panel) -> Panel
     requires { p.count ≤ 9 }
@@ -30,7 +30,7 @@ pub fn turned(p: Panel) -> Panel
     }
 }
 
-// The panel whose depths and section are shown. No open call: the count must be at most 9. It and the face's number are kept as they are: see
+// The panel whose depths and section are shown. The count must be at most 9. It and the face's number are kept as they are: see
 // `turned`.
 pub fn shown(p: Panel) -> Panel
     requires { p.count ≤ 9 }

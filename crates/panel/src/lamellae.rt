@@ -1,5 +1,5 @@
 // The lamellae of a panel, lent.
-ghost use Rattle.std.specs.Prelude.{◌≡◌, ◌≤◌, length};
+ghost use Rattle.std.specs.Prelude.{◌≡◌, ◌≤◌, length, sum};
 
 use crate::Panel;
 
@@ -12,8 +12,17 @@ pub struct Lamellae<'a> {
     pub ghost aligned: { length directions.now ≡ length thicknesses.now },
 }
 
+// The sum of at most nine thicknesses.
+fn sum_of(thicknesses: &[u16]) -> u32
+    requires { length thicknesses.now ≤ 9 }
+    ensures { result ≡ sum thicknesses.now }
+{
+    thicknesses.iter().map(|t| u32::from(*t)).sum()
+}
+
 impl<'a> Lamellae<'a> {
     ghost use Rattle.std.specs.Prelude.{drop};
+    ghost use Rattle.panel.specs.Lamellae.{thickness};
     ghost use Rattle.panel.specs.Lent.{lamellae_in};
 
     // Those from a place on. It and `Panel::lamellae` are kept as they are: each cuts both slices in one struct literal, one in front and the
@@ -27,13 +36,21 @@ impl<'a> Lamellae<'a> {
             thicknesses: &self.thicknesses[place..],
         }
     }
+
+    // How thick they are together. A panel has at most nine.
+    pub fn total_thickness(self) -> u32
+        requires { length (lamellae_in self) ≤ 9 }
+        ensures { result ≡ thickness (lamellae_in self.entry) }
+    {
+        sum_of(self.thicknesses)
+    }
 }
 
 impl Panel {
     ghost use Rattle.panel.specs.Lamellae.{lamellae};
     ghost use Rattle.panel.specs.Lent.{lamellae_in};
 
-    // Those of a panel. No open call: the count must be at most 9. Kept as it is: see `starting_at`.
+    // Those of a panel. The count must be at most 9. Kept as it is: see `starting_at`.
     pub fn lamellae(&self) -> Lamellae<'_>
         requires { self.now.count ≤ 9 }
         ensures { lamellae_in result ≡ lamellae self.now }

@@ -1,12 +1,13 @@
 // The panel of document 01: lamellae, boards and load, the face that the fire is on, and what follows from the boards alone, the start
-// of charring. A panel is plain data: what limits it keeps is the matter of the crate `limits`.
+// of charring. A panel is plain data: what limits it keeps is the matter of the crate `limits`. No open calls: what a function
+// asks, its `requires` says.
 #![tactic(auto)]
 
 pub mod boards;
 pub mod faces;
 pub mod lamellae;
 pub mod materials;
-pub mod timber;
+pub mod product;
 
 // A joint coefficient that takes nothing off, in hundredths.
 pub const WHOLE_JOINT: u8 = 100;

@@ -13,11 +13,11 @@ use Rattle.numbers.proofs.Booleans.{and_left, and_right}
 use Rattle.panel.specs.declared.Panel.{Panel}
 use Rattle.panel.specs.Lamellae.{Lamella, lamellae, along, thickness}
 use Rattle.panel.proofs.Used.{lamellae_with, length_lamellae_of}
-use Rattle.limits.specs.Lines.{down_to}
-use Rattle.limits.specs.Causes.{bad_count, bad_lamella, bad_lamellae, none_along, bad_section, some}
-use Rattle.limits.specs.Refusals.{panel_lines, panel_refusal, refusal_to12}
-use Rattle.limits.proofs.FirstLine.{accepted_iff}
-use Rattle.limits.proofs.Accepted.{accepted_cause, section_decides}
+use Rattle.refusals.specs.Lines.{down_to}
+use Rattle.refusals.specs.Causes.{bad_count, bad_lamella, bad_lamellae, none_along, bad_section, some}
+use Rattle.refusals.specs.Refusals.{panel_lines, panel_refusal, refusal_before_section}
+use Rattle.refusals.proofs.FirstLine.{accepted_iff}
+use Rattle.refusals.proofs.PanelTable.{accepted_cause, section_decides}
 use Rattle.planing.specs.declared.Cut.{Cut}
 use Rattle.planing.specs.Cuts.{thickness_at, thinned, cut_panel, least_kept, allowed}
 use Rattle.planing.proofs.Thinned.{thinned_length, thinned_thickness, thinned_along, thinned_good, place_within, thickness_most}
@@ -56,10 +56,10 @@ cut_good p c e a =
 cut_along : (p : Panel) (c : Cut) → none_along p ≡ false → none_along (cut_panel p c) ≡ false
 cut_along p c e = ap (λ (ls : List Lamella). not (some along ls)) (cut_lamellae p c) ∙ ap not (thinned_along c.place c.tenths (lamellae p)) ∙ e
 
--- no line above 13 turns back an accepted panel that is cut as allowed
-pub cut_to12 : (p : Panel) (c : Cut) → panel_refusal p ≡ 0 → allowed p c ≡ true → refusal_to12 (cut_panel p c) ≡ 0
-unfolding refusal_to12
-cut_to12 p c e a =
+-- no line above 13 refuses an accepted panel that is cut as allowed
+pub cut_before_section : (p : Panel) (c : Cut) → panel_refusal p ≡ 0 → allowed p c ≡ true → refusal_before_section (cut_panel p c) ≡ 0
+unfolding refusal_before_section
+cut_before_section p c e a =
     let none = accepted_cause p e in
     let count = ap bad_count (cut_count p c) ∙ none 10 in
     let good = cut_good p c (none 11) (allowed_means p c a) in
@@ -69,19 +69,27 @@ cut_to12 p c e a =
 -- THE LAW: an allowed cut of an accepted panel meets no line but 13
 pub cut_meets : (p : Panel) (c : Cut) → panel_refusal p ≡ 0 → allowed p c ≡ true
     → (panel_refusal (cut_panel p c) ≡ 0) ⊎ (panel_refusal (cut_panel p c) ≡ 13)
-cut_meets p c e a = go (bad_section (cut_panel p c)) (section_decides (cut_panel p c) (cut_to12 p c e a))
+cut_meets p c e a = go (bad_section (cut_panel p c)) (section_decides (cut_panel p c) (cut_before_section p c e a))
   where
     go : (bad : Bool) → panel_refusal (cut_panel p c) ≡ pick bad 13 0 → (panel_refusal (cut_panel p c) ≡ 0) ⊎ (panel_refusal (cut_panel p c) ≡ 13)
     go true h = inr h
     go false h = inl h
 
 -- of an accepted panel an allowed cut is of one of its lamellae, and takes off at most 50.0 mm
-pub allowed_within : (p : Panel) (c : Cut) → panel_refusal p ≡ 0 → allowed p c ≡ true
-    → (0 < c.place) × ((c.place ≤ p.count) × (c.tenths ≤ 500))
+pub record Within (p : Panel) (c : Cut) : Type 0 where
+  pub first : 0 < c.place
+  pub last : c.place ≤ p.count
+  pub most : c.tenths ≤ 500
+
+pub allowed_within : (p : Panel) (c : Cut) → panel_refusal p ≡ 0 → allowed p c ≡ true → Within p c
 allowed_within p c e a =
     let h = allowed_means p c a in
     let kept = h.kept in
     let place = place_within c.place (lamellae p) (omega arith) in
     let good = (or_parts (some bad_lamella (lamellae p)) (ltb 4000 (thickness (lamellae p))) (accepted_cause p e 11)).0 in
     let most = thickness_most c.place (lamellae p) good in
-    (place.0, (omega (arith, place.1, length_lamellae_of p.directions p.thicknesses p.count), omega arith))
+    record {
+      first = place.0;
+      last = omega (arith, place.1, length_lamellae_of p.directions p.thicknesses p.count);
+      most = omega arith;
+    }

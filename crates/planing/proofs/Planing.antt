@@ -13,7 +13,7 @@ use Rattle.std.specs.Prelude.{Option, Some, None, Ok}
 use Rattle.numbers.proofs.Booleans.{and_left, and_right, not_both}
 use Rattle.numbers.proofs.LeastKept.{least_keeps, least_before}
 use Rattle.panel.specs.declared.Panel.{Panel}
-use Rattle.limits.specs.Refusals.{panel_refusal}
+use Rattle.refusals.specs.Refusals.{panel_refusal}
 use Rattle.ratings.specs.Answers.{rei_grade}
 use Rattle.planing.specs.declared.Cut.{Cut}
 use Rattle.planing.specs.Cuts.{cut_panel, allowed, lowers}
@@ -37,7 +37,7 @@ module _ (p : Panel) (e : panel_refusal p ≡ 0) where
   behind : (c : Cut) → LoweringCut p c → Behind p.face p.count c.place
   behind c h =
       let within = allowed_within p c e h.allowed in
-      place_behind p.face p.count c.place within.0 within.1.0
+      place_behind p.face p.count c.place within.first within.last
 
   -- such a cut is seen by the search
   seen : (c : Cut) (h : LoweringCut p c) → lowering p (cut_behind p c.tenths (behind c h).others) ≡ true
@@ -90,7 +90,7 @@ module _ (p : Panel) (e : panel_refusal p ≡ 0) where
   none_lowers : suc most_cut ≤ least_tenths p → NoneLowers p
   none_lowers h c low =
       let least = no_less c low in
-      let most = (allowed_within p c e low.allowed).1.1 in
+      let most = (allowed_within p c e low.allowed).most in
       let z : ⊥ = omega arith in z
 
   -- THE THEOREM: the answer is what the paper asks for

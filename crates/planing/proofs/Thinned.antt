@@ -12,7 +12,7 @@ use Rattle.numbers.proofs.Booleans.{in_range}
 use Rattle.panel.specs.Lamellae.{Lamella, lamella, along, thickness}
 use Rattle.panel.specs.declared.Material.TheVariants.{Wood}
 use Rattle.panel.specs.Materials.{bad_thickness}
-use Rattle.limits.specs.Causes.{bad_lamella, some}
+use Rattle.refusals.specs.Causes.{bad_lamella, some}
 use Rattle.planing.specs.Cuts.{thickness_at, thinned, least_kept}
 
 pub thinned_length : (place tenths : ℕ) (ls : List Lamella) → length (thinned place tenths ls) ≡ length ls

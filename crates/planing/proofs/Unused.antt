@@ -7,8 +7,8 @@ use Rattle.numbers.specs.Least.{least}
 use Rattle.panel.specs.declared.Panel.{Panel}
 use Rattle.panel.specs.Lamellae.{with_lamellae, cleared, SameUsed}
 use Rattle.panel.proofs.Used.{lamellae_cleared, count_cleared, cleared_same, unused}
-use Rattle.limits.specs.Lines.{unless_refused}
-use Rattle.limits.proofs.Unused.{refusal_unused}
+use Rattle.refusals.specs.Lines.{unless_refused}
+use Rattle.refusals.proofs.Unused.{refusal_unused}
 use Rattle.layers.proofs.Unused.{printed_ei_same}
 use Rattle.grades.specs.Grades.{rei_of}
 use Rattle.load.proofs.Unused.{printed_load_same}

@@ -5,8 +5,8 @@ use Rattle.numbers.specs.Least.{least}
 use Rattle.panel.specs.declared.Panel.{Panel}
 use Rattle.panel.specs.declared.Material.TheVariants.{Wood}
 use Rattle.panel.specs.Materials.{thickest}
-use Rattle.limits.specs.Lines.{unless_refused}
-use Rattle.limits.specs.Refusals.{panel_refusal}
+use Rattle.refusals.specs.Lines.{unless_refused}
+use Rattle.refusals.specs.Refusals.{panel_refusal}
 use Rattle.planing.specs.declared.Cut.{Cut}
 use Rattle.planing.specs.Cuts.{least_kept, allowed, lowers}
 
@@ -23,8 +23,8 @@ cut_behind p tenths behind = record { place = place_on p.face p.count behind; te
 abbrev pub lowering : Panel → Cut → Bool
 lowering p c = allowed p c && lowers p c
 
--- of the lamellae off which so many tenths may be taken and lower the grade, behind how many others the nearest to the fire stands; the
--- count where there is none
+-- how many lamellae stand between the fire and the nearest one off which so many tenths may be taken and lower the grade; the count where
+-- there is none
 unfoldable pub first_behind : Panel → ℕ → ℕ
 first_behind p tenths = least (λ (behind : ℕ). lowering p (cut_behind p tenths behind)) p.count
 

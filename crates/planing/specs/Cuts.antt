@@ -4,7 +4,7 @@ use Rattle.std.specs.Prelude.{ℕ, zero, suc, ◌+◌, ◌-◌, List, [], ◌∷
 use Rattle.panel.specs.declared.Panel.{Panel}
 use Rattle.planing.specs.declared.Cut.{Cut}
 use Rattle.panel.specs.Lamellae.{Lamella, lamella, lamellae, with_lamellae}
-use Rattle.limits.specs.Refusals.{panel_refusal}
+use Rattle.refusals.specs.Refusals.{panel_refusal}
 use Rattle.ratings.specs.Answers.{rei_grade}
 
 -- the thickness of the lamella at a place; 0 where there is none

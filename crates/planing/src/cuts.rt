@@ -1,7 +1,7 @@
-// A cut of one lamella, and whether it lowers the REI grade. No open calls: the lamella must be one of the panel's own.
+// A cut of one lamella, and whether it lowers the REI grade. The lamella must be one of the panel's own.
 ghost use Rattle.std.specs.Prelude.{◌≡◌, suc, ◌+◌, ◌≤◌, ◌<◌, get_or};
 ghost use Rattle.panel.specs.Lamellae.{SameUsed};
-ghost use Rattle.limits.specs.Refusals.{panel_refusal, refusal_to12};
+ghost use Rattle.refusals.specs.Refusals.{panel_refusal, refusal_before_section};
 ghost use Rattle.grades.specs.Grades.{grade_of};
 ghost use Rattle.ratings.specs.Answers.{rei_grade};
 ghost use Rattle.planing.specs.Cuts.{cut_panel, lowered};
@@ -44,7 +44,7 @@ fn cut_panel(p: Panel, at: usize, tenths: u16) -> Panel
 // below them, whatever is kept.
 fn is_lowered(minutes: Minute, q: Panel, kept: &KeptSums) -> bool
     requires minutes_of_grade { (grade_of minutes).minutes ≡ minutes }
-    requires q_value { refusal_to12 q ≡ 0 }
+    requires q_value { refusal_before_section q ≡ 0 }
     ensures { result ≡ lowered minutes q }
 {
     let least = minutes.number();

@@ -1,4 +1,4 @@
-// How much may be planed off one lamella before the REI grade falls (document 02, 7/14).
+// How much may be planed off one lamella before the REI grade falls (document 02, 7/14). The open call is in `calls`.
 #![tactic(auto)]
 
 pub mod calls;

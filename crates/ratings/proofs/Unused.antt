@@ -2,7 +2,7 @@
 use mathlib.Core.Path.{◌≡◌, ap, ap₂}
 use Rattle.panel.specs.declared.Panel.{Panel}
 use Rattle.panel.specs.Lamellae.{SameUsed}
-use Rattle.limits.proofs.Unused.{refusal_unused}
+use Rattle.refusals.proofs.Unused.{refusal_unused}
 use Rattle.layers.proofs.Unused.{printed_ei_same}
 use Rattle.grades.specs.declared.Grade.{Grade}
 use Rattle.grades.specs.Grades.{grade_of, rei_of}

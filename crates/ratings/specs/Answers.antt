@@ -1,8 +1,8 @@
 -- The grades of a panel, by document 01's number: what the open calls of this crate answer.
 use Rattle.std.specs.Prelude.{ℕ, Result}
 use Rattle.panel.specs.declared.Panel.{Panel}
-use Rattle.limits.specs.Lines.{unless_refused}
-use Rattle.limits.specs.Refusals.{panel_refusal}
+use Rattle.refusals.specs.Lines.{unless_refused}
+use Rattle.refusals.specs.Refusals.{panel_refusal}
 use Rattle.layers.specs.Layers.{printed_ei}
 use Rattle.grades.specs.declared.Grade.{Grade}
 use Rattle.grades.specs.Grades.{grade_of, rei_of}

@@ -1,18 +1,18 @@
 // The open calls of this crate: they ask nothing of their caller.
 ghost use Rattle.std.specs.Prelude.{◌≡◌};
-ghost use Rattle.limits.specs.Numbers.{by_number};
+ghost use Rattle.refusals.specs.Numbers.{by_number};
 ghost use Rattle.ratings.specs.Answers.{load_grade, ei_grade, rei_grade, graded};
 
 use crate::Ratings;
 use grades::Grade;
 use layers::minutes::ei_minute_of;
 use limits::check::Accepted;
-use limits::refusal::Refusal;
 use load::minutes::load_minute_of;
 use panel::Panel;
+use refusals::refusal::Refusal;
 
 // The grade of the load minute. The check and the step stay as they are: see `ei` (layers).
-#[tactic(auto, using(limits::proofs::FirstLine::handed_on, limits::proofs::FirstLine::worked_out), unfolding(crate::specs::Answers::graded, limits::specs::Answers::accepted_answer))]
+#[tactic(auto, using(refusals::proofs::FirstLine::handed_on, refusals::proofs::FirstLine::worked_out), unfolding(crate::specs::Answers::graded, limits::specs::Answers::accepted_answer))]
 pub fn load_grade(p: Panel) -> Result<Grade, Refusal>
     ensures { by_number result ≡ graded load_grade p }
 {
@@ -21,7 +21,7 @@ pub fn load_grade(p: Panel) -> Result<Grade, Refusal>
 }
 
 // The grade of EI. The check and the step stay as they are: see `ei` (layers).
-#[tactic(auto, using(limits::proofs::FirstLine::handed_on, limits::proofs::FirstLine::worked_out), unfolding(crate::specs::Answers::graded, limits::specs::Answers::accepted_answer))]
+#[tactic(auto, using(refusals::proofs::FirstLine::handed_on, refusals::proofs::FirstLine::worked_out), unfolding(crate::specs::Answers::graded, limits::specs::Answers::accepted_answer))]
 pub fn ei_grade(p: Panel) -> Result<Grade, Refusal>
     ensures { by_number result ≡ graded ei_grade p }
 {
@@ -30,7 +30,7 @@ pub fn ei_grade(p: Panel) -> Result<Grade, Refusal>
 }
 
 // The REI grade, of the lower of R and EI. The check and the step stay as they are: see `ei` (layers).
-#[tactic(auto, using(limits::proofs::FirstLine::handed_on, limits::proofs::FirstLine::worked_out), unfolding(crate::specs::Answers::graded, limits::specs::Answers::accepted_answer))]
+#[tactic(auto, using(refusals::proofs::FirstLine::handed_on, refusals::proofs::FirstLine::worked_out), unfolding(crate::specs::Answers::graded, limits::specs::Answers::accepted_answer))]
 pub fn rei_grade(p: Panel) -> Result<Grade, Refusal>
     ensures { by_number result ≡ graded rei_grade p }
 {

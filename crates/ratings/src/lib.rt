@@ -1,5 +1,5 @@
-// The grades of a panel (document 01, "Layer times"): for load (R), for integrity and insulation (EI), and for both (REI). What panels
-// of the same build share is stated and proved here too, over charring and layers.
+// The grades of a panel (document 01, "Layer times"): for load (R), for integrity and insulation (EI), and for both (REI).
+// The open calls are in `calls`.
 #![tactic(auto)]
 
 ghost use Rattle.std.specs.Prelude.{◌≡◌};

@@ -14,17 +14,18 @@ use Rattle.panel.specs.declared.Cladding.TheVariants.{Unclad, One, Two}
 use Rattle.panel.specs.declared.Panel.{Panel}
 use Rattle.panel.specs.Lamellae.{cleared}
 use Rattle.panel.proofs.Used.{cleared_same}
-use Rattle.limits.specs.Lines.{refusal}
-use Rattle.limits.specs.declared.ByteFaults.{ByteFaults}
-use Rattle.limits.specs.Refusals.{no_bytes, table_lines, panel_refusal}
+use Rattle.refusals.specs.Lines.{refusal}
+use Rattle.refusals.specs.declared.ByteFaults.{ByteFaults}
+use Rattle.refusals.specs.Refusals.{no_bytes, table_lines, panel_refusal}
 use Rattle.numbers.proofs.Booleans.{in_range}
-use Rattle.limits.proofs.Accepted.{accepted_cause, accepted_keeps}
-use Rattle.limits.proofs.Unused.{refusal_unused}
+use Rattle.refusals.proofs.PanelTable.{accepted_cause}
+use Rattle.limits.proofs.Accepted.{accepted_keeps}
+use Rattle.refusals.proofs.Unused.{refusal_unused}
 use Rattle.panel.specs.Boards.{boards_of}
 use Rattle.record.specs.Layouts.{length_with, shortest, longest, version_of, front_of, count_of_boards, count_of_lamellae, encode}
 use Rattle.record.specs.Refusals.{bad_length, bad_board_count, bad_whole, byte_faults, record_refusal}
 use Rattle.record.proofs.Lengths.{front_within, length_encode}
-use Rattle.record.proofs.There.{version_there, front_there, board_count_there, count_there, panel_there}
+use Rattle.record.proofs.DecodeEncoded.{version_there, front_there, board_count_there, count_there, panel_there}
 
 at_most_two : (c : Cladding) → length (boards_of c) ≤ 2
 at_most_two Unclad = omega arith

@@ -4,8 +4,8 @@ pub mod Lengths
 pub mod Sound
 pub mod Accepting
 -- Both round trips.
-pub mod There
-pub mod Back
+pub mod DecodeEncoded
+pub mod EncodeDecoded
 pub mod Writes
 pub mod RoundTrips
 -- Unused places do not matter.

@@ -10,8 +10,8 @@ use lib.Seq.{take_at}
 use Rattle.numbers.specs.Bytes.{AreBytes}
 use Rattle.panel.specs.declared.Panel.{Panel}
 use Rattle.panel.specs.Lamellae.{cleared}
-use Rattle.limits.specs.Refusals.{panel_refusal}
-use Rattle.limits.proofs.FirstLine.{answered}
+use Rattle.refusals.specs.Refusals.{panel_refusal}
+use Rattle.refusals.proofs.FirstLine.{answered}
 use Rattle.limits.proofs.Accepted.{accepted_fits}
 use Rattle.record.specs.Layouts.{record_length, panel_of, encode}
 use Rattle.record.specs.Refusals.{record_refusal, write_refusal}
@@ -19,9 +19,9 @@ use Rattle.record.specs.Answers.{decode, write_answer, space_after, WrittenBack}
 use Rattle.record.proofs.Lengths.{length_encode}
 use Rattle.record.proofs.Writes.{write_taken, write_accepted}
 use Rattle.record.proofs.Sound.{accepted_sound, record_panel}
-use Rattle.record.proofs.There.{panel_there}
+use Rattle.record.proofs.DecodeEncoded.{panel_there}
 use Rattle.record.proofs.Accepting.{zero_else, encode_accepted}
-use Rattle.record.proofs.Back.{encode_back}
+use Rattle.record.proofs.EncodeDecoded.{encode_back}
 
 -- a panel's record is read as the panel with its unused places 0
 pub decode_encode : (p : Panel) → panel_refusal p ≡ 0 → decode (encode p) ≡ Ok (cleared p)

@@ -13,11 +13,11 @@ use Rattle.numbers.specs.Choice.{outside}
 use Rattle.numbers.specs.Bytes.{fields}
 use Rattle.panel.specs.Lamellae.{lamellae, lamellae_of, directions_of, thicknesses_of}
 use Rattle.panel.proofs.Used.{lamellae_with}
-use Rattle.limits.specs.Lines.{NoneFits, First}
-use Rattle.limits.specs.Causes.{bad_count}
-use Rattle.limits.specs.Refusals.{panel_refusal}
-use Rattle.limits.proofs.FirstLine.{accepted_iff, refusal_first, cause_none}
-use Rattle.limits.proofs.Accepted.{table_accepted}
+use Rattle.refusals.specs.Lines.{NoneFits, First}
+use Rattle.refusals.specs.Causes.{bad_count}
+use Rattle.refusals.specs.Refusals.{panel_refusal}
+use Rattle.refusals.proofs.FirstLine.{accepted_iff, refusal_first, cause_none}
+use Rattle.refusals.proofs.PanelTable.{table_accepted}
 use Rattle.numbers.proofs.Booleans.{in_range}
 use Rattle.panel.specs.Boards.{boards_of}
 use Rattle.record.specs.Layouts.{

@@ -7,8 +7,8 @@ use lib.Dec.{ltb}
 use Rattle.panel.specs.declared.Panel.{Panel}
 use Rattle.panel.specs.Lamellae.{SameUsed}
 use Rattle.panel.proofs.Used.{lamellae_cleared, count_cleared, unused}
-use Rattle.limits.specs.Lines.{Line, line, refusal}
-use Rattle.limits.proofs.Unused.{lines_unused}
+use Rattle.refusals.specs.Lines.{Line, line, refusal}
+use Rattle.refusals.proofs.Unused.{lines_unused}
 use Rattle.record.specs.Layouts.{record_length, encode}
 use Rattle.record.specs.Refusals.{write_refusal}
 use Rattle.record.specs.Answers.{write_answer, space_after}

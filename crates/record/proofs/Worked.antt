@@ -6,7 +6,7 @@ use Rattle.panel.specs.Lamellae.{lamellae_of, thickness}
 use Rattle.panel.specs.Worked.{g}
 use Rattle.section.specs.Sections.{counted_from, total, lowest, highest, section_of}
 use Rattle.section.specs.Tests.{carries}
-use Rattle.limits.specs.Causes.{some}
+use Rattle.refusals.specs.Causes.{some}
 use Rattle.record.specs.Layouts.{
   front_length,
   head_length,

@@ -1,7 +1,7 @@
 -- What `read` and `write` answer, by document 01's number, and what `write` leaves in the lent space.
 use Rattle.std.specs.Prelude.{ℕ, ◌≡◌, List, ◌++◌, length, drop, Result, Ok}
 use Rattle.panel.specs.declared.Panel.{Panel}
-use Rattle.limits.specs.Lines.{answer, unless_refused}
+use Rattle.refusals.specs.Lines.{answer, unless_refused}
 use Rattle.record.specs.Layouts.{panel_of, record_length, encode}
 use Rattle.record.specs.Refusals.{record_refusal, write_refusal}
 

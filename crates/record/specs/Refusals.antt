@@ -2,9 +2,10 @@
 use Rattle.std.specs.Prelude.{ℕ, List, [], ◌∷◌, ◌++◌, Bool, not, ◌||◌, length, get_or, eqb, ltb}
 use Rattle.numbers.specs.Choice.{outside}
 use Rattle.panel.specs.declared.Panel.{Panel}
-use Rattle.limits.specs.Lines.{Line, line, refusal}
-use Rattle.limits.specs.declared.ByteFaults.{ByteFaults}
-use Rattle.limits.specs.Refusals.{table_lines, panel_lines}
+use Rattle.refusals.specs.Lines.{Line, line, refusal}
+use Rattle.refusals.specs.Causes.{bad_space}
+use Rattle.refusals.specs.declared.ByteFaults.{ByteFaults}
+use Rattle.refusals.specs.Refusals.{table_lines, panel_lines}
 use Rattle.record.specs.Layouts.{length_with, shortest, longest, version_of, front_of, count_of_boards, count_of_lamellae, panel_of, record_length}
 
 -- 1, length: "fewer than 21 or more than 54", for either version, "or length not the bytes given"
@@ -33,7 +34,7 @@ record_refusal b = refusal (record_lines b)
 
 -- 14, lent space: "fewer bytes than the record .. written"
 abbrev pub short_for : Panel → List ℕ → Bool
-short_for p space = ltb (length space) (record_length p)
+short_for p space = bad_space (record_length p) (length space)
 
 -- "The writer checks lines 3 to 13 alike, then 14"; 2 and 16 before them
 unfoldable pub write_refusal : Panel → List ℕ → ℕ

@@ -1,15 +1,15 @@
 // The open calls of this crate: they ask nothing of their caller.
 ghost use Rattle.std.specs.Prelude.{◌≡◌};
-ghost use Rattle.limits.specs.Numbers.{by_number};
+ghost use Rattle.refusals.specs.Numbers.{by_number};
 ghost use Rattle.record.specs.Answers.{decode, write_answer, space_after};
 
 use crate::faults::byte_faults;
 use crate::reader::panel_of;
 use crate::writer::{put_record, record_length};
 use limits::check::Accepted;
-use limits::refusal::Refusal;
-use limits::table::refuse_if;
 use panel::Panel;
+use refusals::refusal::Refusal;
+use refusals::table::check_space;
 
 // The panel that stands in a record of any length, or the refusal.
 pub fn read(s: &[u8]) -> Result<Accepted, Refusal>
@@ -25,7 +25,7 @@ pub fn write(p: Panel, out: &mut [u8]) -> Result<usize, Refusal>
 {
     let accepted = Accepted::of(p)?;
     let length = record_length(accepted);
-    refuse_if(out.len() < length, Refusal::Space)?;
+    check_space(length, out.len())?;
     put_record(out, accepted);
     Ok(length)
 }

@@ -4,8 +4,8 @@ ghost use Rattle.record.specs.Refusals.{bad_length, bad_board_count, bad_whole, 
 
 use crate::layout;
 use crate::reader::{lamella_count, layout_in};
-use limits::ByteFaults;
 use numbers::bytes::bytes_at;
+use refusals::ByteFaults;
 
 fn bad_length(s: &[u8]) -> bool
     ensures { result ≡ bad_length s.now }

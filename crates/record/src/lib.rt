@@ -1,4 +1,5 @@
-// The panel record of documents 01 and 02: its layout, the reader and the writer, and the lines that turn a record back.
+// The panel record of documents 01 and 02: its layout, the reader and the writer, and the lines that refuse a record. The open
+// calls are in `calls`.
 #![tactic(auto)]
 
 pub mod calls;

@@ -132,7 +132,7 @@ fn put_front(out: &mut [u8], accepted: Accepted)
     }
 }
 
-// Stores a panel's record at the start of the space. No open call: the record must fit. The room is kept as it is: see `put_cladding`.
+// Stores a panel's record at the start of the space. The record must fit. The room is kept as it is: see `put_cladding`.
 pub(crate) fn put_record(out: &mut [u8], accepted: Accepted)
     requires { record_length accepted ≤ length out.old }
     ensures { out.new ≡ sets out.old 0 (encode accepted) }

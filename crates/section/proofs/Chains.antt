@@ -11,7 +11,7 @@ use Rattle.numbers.proofs.Booleans.{and_right}
 use Rattle.panel.specs.Lamellae.{Lamella, along, thickness}
 use Rattle.section.specs.Sections.{Part, least_remainder, rest, counts, keep_if, counted_from, counted, total, lowest, highest, section_of}
 use Rattle.section.specs.Tests.{SectionBounds}
-use Rattle.section.proofs.Products.{square_rises, cube_rises}
+use Rattle.numbers.proofs.Products.{square_rises, cube_rises}
 
 -- parts that lie one below the other between a top and a bottom, none of them empty
 pub data Chain : ℕ → List Part → ℕ → Type 0 where

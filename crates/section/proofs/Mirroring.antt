@@ -9,7 +9,7 @@ use native.Mathlib.Omega.{arith}
 use lib.Dec.{leb}
 use Rattle.panel.specs.declared.Panel.{Panel}
 use Rattle.panel.specs.Lamellae.{Lamella, along, thickness, lamellae}
-use Rattle.panel.specs.Timber.{factor_of}
+use Rattle.panel.specs.Product.{factor_of}
 use Rattle.panel.specs.Faces.{turned}
 use Rattle.panel.proofs.Turning.{turned_lamellae}
 use Rattle.section.specs.declared.Section.{Section}

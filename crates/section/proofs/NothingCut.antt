@@ -9,9 +9,11 @@ use native.Mathlib.Nat.{mul-le-mul, le_refl}
 use lib.Dec.{leb}
 use borrow.Author.Tests.{lt-leb}
 use Rattle.panel.specs.Lamellae.{Lamella, thickness}
+use Rattle.section.specs.declared.Section.{Section}
 use Rattle.section.specs.Sections.{Part, least_remainder, counted, total, lowest, highest, section_of}
+use Rattle.section.specs.Tests.{SectionBounds}
 use Rattle.section.specs.NothingCut.{Forward, NothingCut}
-use Rattle.section.proofs.Chains.{Chain, none, more, chain_ends, counted_chain}
+use Rattle.section.proofs.Chains.{Chain, none, more, chain_ends, counted_bounds, counted_chain}
 use Rattle.section.proofs.Moments.{moments_add, moments_part, part_above, part_below, above_add, below_add}
 
 -- a chain's parts run forward
@@ -84,3 +86,8 @@ unfolding section_of
 nothing_cut depth ls =
     let c = counted_chain depth 0 (thickness ls) ls (omega arith) in
     record { outer = chain_outer c; inner = chain_inner c; inertia = total_moments c }
+
+-- so what remains at a depth of at most 400.0 mm keeps its bounds and can be tested
+pub remains :
+    (depth : ℕ) (ls : List Lamella) → thickness ls ≤ 4000 → {s : Section} → s ≡ section_of (counted depth ls) → SectionBounds s × NothingCut s
+remains depth ls h e = (rw e (counted_bounds depth ls h), rw e (nothing_cut depth ls))

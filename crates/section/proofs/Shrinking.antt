@@ -14,10 +14,10 @@ use Rattle.section.specs.declared.Section.{Section}
 use Rattle.section.specs.Sections.{Part, least_remainder, rest, counts, keep_if, counted_from, counted, total, lowest, highest, section_of}
 use Rattle.section.specs.Tests.{edge, inertia, carries}
 use Rattle.section.specs.Between.{carries_between}
-use Rattle.section.proofs.Products.{square_rises, cube_rises}
 use Rattle.section.proofs.Chains.{Chain, none, more, part, counted_ahead, counts_forward, counted_chain, chain_ends, highest_same}
 use Rattle.section.proofs.Moments.{inertia_adds, moments_part, part_above, part_below}
 use Rattle.section.proofs.NothingCut.{total_moments, chain_highest}
+use Rattle.numbers.proofs.Products.{square_rises, cube_rises}
 
 -- no greater in any of the three that the test asks for
 record Smaller (deep shallow : Section) : Type 0 where

@@ -4,5 +4,3 @@ pub mod Tests
 pub mod Between
 pub mod NothingCut
 pub mod Mirrored
-pub mod Carried
-pub mod Carrying

@@ -2,7 +2,7 @@
 use Rattle.std.specs.Prelude.{ℕ, ◌-◌, ◌*◌, ◌≤◌, max, Bool, ◌&&◌, leb, ltb}
 use Rattle.panel.specs.declared.Panel.{Panel}
 use Rattle.panel.specs.Lamellae.{lamellae}
-use Rattle.panel.specs.Timber.{factor_of}
+use Rattle.panel.specs.Product.{factor_of}
 use Rattle.section.specs.declared.Section.{Section}
 use Rattle.section.specs.Sections.{counted, section_of}
 use Rattle.section.specs.Growing.{SumsTo}

@@ -1,12 +1,11 @@
 // The remaining section of a panel at a depth (document 01, "Remaining section"): the counted parts, N, P, Q, lo and hi of
-// them, worked out at any depth or carried from one to the next, and whether the depth passes. It works on panels that keep the limits;
-// the crate `limits` checks them.
+// them, and whether the depth passes, or all depths from one to another. It works on panels that keep the limits; the crate `limits` checks
+// them. No open calls: what a function asks, its `requires` says.
 #![tactic(auto)]
 
 ghost use Rattle.section.specs.Tests.{SectionBounds};
 ghost use Rattle.section.specs.NothingCut.{NothingCut};
 
-pub mod carry;
 pub mod sums;
 pub mod test;
 

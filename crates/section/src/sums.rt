@@ -11,16 +11,19 @@ use crate::{Remaining, Section};
 use panel::Panel;
 use panel::lamellae::Lamellae;
 
-// A stretch of a panel of at most 400.0 mm, from one depth to another.
+// 3.0 mm: a remainder under it is dropped.
+const LEAST_REMAINDER: u64 = 30;
+
+// A part of a panel of at most 400.0 mm, from one depth to another, in tenths of mm.
 #[derive(Clone, Copy)]
-pub(crate) struct Part {
+pub struct Part {
     pub from: u64,
     pub to: u64,
     ghost forward: { from ≤ to },
     ghost within: { to ≤ 4000 },
 }
 
-// The sums over the lamellae from the exposed face to `end`.
+// The sums over the lamellae from the exposed face to `end`, in tenths of mm.
 #[derive(Clone, Copy)]
 struct Sums {
     section: Section,
@@ -31,14 +34,14 @@ struct Sums {
 
 impl Part {
     // b² − a².
-    pub(crate) fn squares(self) -> u64
+    pub fn squares(self) -> u64
         ensures { (result ≡ self.to * self.to - self.from * self.from) × (result ≤ 16000000) }
     {
         self.to * self.to - self.from * self.from
     }
 
     // b³ − a³.
-    pub(crate) fn cubes(self) -> u64
+    pub fn cubes(self) -> u64
         ensures { (result ≡ self.to * self.to * self.to - self.from * self.from * self.from) × (result ≤ 64000000000) }
     {
         self.to * self.to * self.to - self.from * self.from * self.from
@@ -46,18 +49,18 @@ impl Part {
 }
 
 // An outermost end: `none` where nothing is counted.
-pub(crate) fn where_none(n: u64, none: u64, end: u64) -> u64
+pub fn where_none(n: u64, none: u64, end: u64) -> u64
     ensures { result ≡ pick (eqb n 0) none end }
 {
     if n == 0 { none } else { end }
 }
 
 // Whether what is left of a lamella is enough to count.
-pub(crate) fn is_enough(a: u64, b: u64) -> bool
+pub fn is_enough(a: u64, b: u64) -> bool
     requires { a < 4294967296 }
     ensures { result ≡ leb least_remainder (b - a) }
 {
-    a + 30 <= b
+    a + LEAST_REMAINDER <= b
 }
 
 impl Sums {
@@ -115,7 +118,7 @@ impl Sums {
     }
 }
 
-// The sums over lent lamellae, so that a scan of depths copies none. No open call: they must be of at most 400.0 mm.
+// The sums over lent lamellae, so that a scan of depths copies none. They must be of at most 400.0 mm.
 pub fn section_in(lamellae: Lamellae<'_>, depth: u32) -> Remaining
     requires { thickness (lamellae_in lamellae) ≤ 4000 }
     ensures { result.section ≡ section_of (counted depth (lamellae_in lamellae.entry)) }
@@ -129,7 +132,7 @@ pub fn section_in(lamellae: Lamellae<'_>, depth: u32) -> Remaining
     }
 }
 
-// No open call: the panel must keep the limits of lines 5, 10 and 11. What is asked stays as it is: a panel is plain data by value.
+// The panel must keep the limits of lines 5, 10 and 11. What is asked stays as it is: a panel is plain data by value.
 pub fn section_at(p: Panel, depth: u32) -> Remaining
     requires { SectionFits p }
     ensures { result.section ≡ section_at p depth }

@@ -1,13 +1,13 @@
 // Whether a depth passes.
 ghost use Rattle.std.specs.Prelude.{◌≡◌, ◌*◌, ◌≤◌, leb};
-ghost use Rattle.panel.specs.Timber.{factor_of};
+ghost use Rattle.panel.specs.Product.{factor_of};
 ghost use Rattle.section.specs.Tests.{edge, inertia, carries, depth_passes, SectionFits};
 ghost use Rattle.section.specs.Between.{carries_between};
 
 use crate::Remaining;
 use crate::sums::section_at;
 use panel::Panel;
-use panel::timber::factor_of;
+use panel::product::factor_of;
 
 // What a section is tested with, within the limits of line 5: the product's factor in twentieths, the moment (N·m) and the strength (tenths
 // of N/mm²).
@@ -40,7 +40,7 @@ impl Remaining {
 }
 
 impl DesignValues {
-    // Those of a panel. No open call: the panel must keep the limits of line 5.
+    // Those of a panel. The panel must keep the limits of line 5.
     pub fn of(p: &Panel) -> DesignValues
         requires { (p.now.moment ≤ 1000000) × (p.now.strength ≤ 400) }
         ensures factor { result.factor ≡ factor_of p.now.bond }
@@ -80,7 +80,7 @@ impl DesignValues {
     }
 }
 
-// No open call: the panel must keep the limits of lines 5, 10 and 11. What is asked stays as it is: line 13 tests a panel that is not
+// The panel must keep the limits of lines 5, 10 and 11. What is asked stays as it is: line 13 tests a panel that is not
 // accepted yet.
 pub fn depth_passes(p: Panel, depth: u32) -> bool
     requires { SectionFits p }

@@ -1,10 +1,11 @@
 // The words of a line, and what a word spells.
 ghost use Rattle.std.specs.Prelude.{◌≡◌, ◌≤◌, ◌==◌, length, position};
 ghost use Rattle.std.specs.List.{before_first, after_first};
+ghost use Rattle.std.specs.Str.{byte};
 
 // The place of a line's first blank.
 fn first_blank(line: &[u8]) -> Option<usize>
-    ensures { result ≡ position (λ c. c == 32) line.now }
+    ensures { result ≡ position (λ c. c == byte " ") line.now }
 {
     line.iter().position(|c| *c == b' ')
 }
@@ -12,8 +13,8 @@ fn first_blank(line: &[u8]) -> Option<usize>
 // A line's first word, up to the first blank, and what follows the blank; nothing where the line is one word. The two are kept as they are, cut
 // at the place: `split_once` is of `&str` alone.
 pub fn split_word(line: &[u8]) -> (&[u8], &[u8])
-    ensures word { result.0.now ≡ before_first (λ c. c == 32) line.now }
-    ensures rest { result.1.now ≡ after_first (λ c. c == 32) line.now }
+    ensures word { result.0.now ≡ before_first (λ c. c == byte " ") line.now }
+    ensures rest { result.1.now ≡ after_first (λ c. c == byte " ") line.now }
 {
     match first_blank(line) {
         Some(end) => (&line[..end], &line[end + 1..]),

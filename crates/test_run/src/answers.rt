@@ -2,9 +2,9 @@
 ghost use Rattle.std.specs.Prelude.{◌≡◌};
 
 use grades::Grade;
-use limits::refusal::Refusal;
 use load::MinutesAndSeconds;
 use planing::Cut;
+use refusals::refusal::Refusal;
 use section::Section;
 use std::{fmt, io};
 use test_lines::output;

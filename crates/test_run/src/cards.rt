@@ -3,7 +3,7 @@
 // or the refusal; whether all bytes past those written (on a refusal all 200) are the same; and the text. The bytes written follow.
 use crate::answers::Answer;
 use crate::lending::lend;
-use limits::refusal::Refusal;
+use refusals::refusal::Refusal;
 use std::io;
 use test_lines::input::{hex_bytes, number};
 use test_lines::output;

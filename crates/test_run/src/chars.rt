@@ -1,9 +1,9 @@
 // `char MINUTE HEX TEXT`: charring of the record's panel at a minute. Prints the char depth in micrometres, the effective depth in tenths
 // of mm and the phase, or the refusal, and the text. A refused record stands for a blank panel.
-use charring::Phase;
-use charring::calls::{char_depth, effective_depth, phase};
-use limits::refusal::Refusal;
 use panel::Panel;
+use phases::Phase;
+use phases::calls::{char_depth, effective_depth, phase};
+use refusals::refusal::Refusal;
 use std::fmt;
 
 #[derive(Clone, Copy)]

@@ -1,6 +1,6 @@
-// The whole of the test programs that differ in their stored input alone. Answers each line of the input: its first word names a call,
-// and what follows is the call's. The answer begins with the same word. A line with another first word gives `unknown` and what follows. A
-// new call is an arm below, and a module where more is printed than an answer of `answers`.
+// What the test program does with an input: answers each of its lines. The first word names a call, and what follows is the call's. The
+// answer begins with the same word. A line with another first word gives `unknown` and what follows. A new call is an arm below, and a
+// module where more is printed than an answer of `answers`.
 //
 // A record (HEX, in hexadecimal) stands for its panel, and a refused one for a blank panel; a raw panel (RAW) is given number by number
 // (`raw`, `panels`). Where nothing else is said, a line is answered by what its call answers, or the refusal, and by TEXT:
@@ -30,9 +30,10 @@ mod times;
 mod writes;
 
 use answers::{LeastCut, Same, Tested, Time, minutes};
+use builds::calls::same_build;
 use grades::calls::{grade_of, rei_of};
-use lent_input::read_full;
-use limits::calls::{same_build, section};
+use lent_input::read_whole;
+use limits::calls::section;
 use lines::Line;
 use load::calls::{load_minute, load_time, reserve};
 use planing::calls::planing;
@@ -40,6 +41,7 @@ use ratings::calls::{ei_grade, load_grade, rei_grade};
 use records::panel_of;
 use sections::carried_answer;
 use std::io;
+use std::io::Read;
 use test_lines::input::{number, number16};
 use test_lines::output;
 
@@ -90,8 +92,12 @@ fn answer_all(rt: &impl Print, text: &[u8]) -> io::Result<()> {
     Ok(())
 }
 
-pub fn run(rt: &(impl Input + Print)) -> io::Result<()> {
-    let mut input = [0u8; 65536];
-    let text = read_full(&mut rt.reader(), &mut input)?;
+// Bytes of an input, at most one less.
+const ROOM: usize = 65536;
+
+// Answers all lines of an input; of one that cannot be read to its end, or does not fit, none.
+pub fn answer_input<R: Read>(rt: &impl Print, input: &mut R) -> io::Result<()> {
+    let mut space = [0u8; ROOM];
+    let text = read_whole(input, &mut space)?;
     answer_all(rt, text)
 }

@@ -3,8 +3,9 @@
 // `panel RAW MINUTE DEPTH TEXT`: prints the number of each call's refusal, 0 for none, or `all` and the number where it is one; `kept` where
 // every lent space is unchanged past what was written (on a refusal whole), or `changed`; and the text. The calls are, in this order:
 //
-// - limits: `panel_check`, `Accepted::of`, `section` at DEPTH, `same_build` with panel G as the second panel, and as the first;
-// - layers: `ei_sum`, `ei`; charring: `asked`, `char_depth`, `effective_depth`, `phase` at MINUTE, `depth_table` with room and with none;
+// - limits: `panel_check`, `Accepted::of`, `section` at DEPTH; builds: `same_build` with panel G as the second panel, and as the first;
+// - layers: `ei_sum`, `ei`; limits: `asked` at MINUTE; phases: `char_depth`, `effective_depth`, `phase` at MINUTE, `depth_table` with room
+//   and with none;
 // - load: `load_minute`, `load_time`, `reserve` against MINUTE; ratings: `load_grade`, `ei_grade`, `rei_grade`; `planing`; record: `write`
 //   with room and with none.
 //
@@ -20,16 +21,18 @@ use crate::answers::{Answer, LeastCut, Same, Tested, Time, minutes};
 use crate::lines::Line;
 use crate::raw::Raw;
 use crate::{chars, sums, tables, writes};
-use charring::calls::{asked, char_depth, effective_depth, phase};
+use builds::calls::same_build;
 use layers::calls::{ei, ei_sum};
-use limits::calls::{panel_check, same_build, section};
+use limits::asked::asked;
+use limits::calls::{panel_check, section};
 use limits::check::Accepted;
-use limits::refusal::Refusal;
 use load::calls::{load_minute, load_time, reserve};
 use panel::boards::charring_start;
 use panel::{Cladding, Panel};
+use phases::calls::{char_depth, effective_depth, phase};
 use planing::calls::planing;
 use ratings::calls::{ei_grade, load_grade, rei_grade};
+use refusals::refusal::Refusal;
 use std::io;
 use test_lines::input::{number, number16};
 use test_lines::output;

@@ -1,8 +1,8 @@
 // `read HEX TEXT`: reads the record in hexadecimal (`-` for no bytes). Prints the refusal's number and the text. For an accepted record,
 // number 0, it also says whether writing the panel gives back the very bytes.
 use crate::answers::Answer;
-use limits::refusal::Refusal;
 use panel::Panel;
+use refusals::refusal::Refusal;
 use std::io;
 use test_lines::input::hex_bytes;
 use test_lines::output;

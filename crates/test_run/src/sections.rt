@@ -3,10 +3,10 @@ ghost use Rattle.std.specs.Prelude.{◌≡◌, min};
 ghost use Rattle.panel.specs.Lamellae.{lamellae, thickness};
 ghost use Rattle.section.specs.Tests.{section_at};
 
+use carried::carry::Carried;
 use limits::check::Accepted;
-use limits::refusal::Refusal;
 use panel::Panel;
-use section::carry::Carried;
+use refusals::refusal::Refusal;
 use section::test::DesignValues;
 use section::{Remaining, Section};
 

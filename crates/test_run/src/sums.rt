@@ -1,7 +1,7 @@
 // `sum HEX TEXT`: the layer times of the record's panel. Prints their sum in hundredths of a minute and EI in minutes, or the refusal,
 // and the text. A refused record stands for a blank panel.
-use limits::refusal::Refusal;
 use panel::Panel;
+use refusals::refusal::Refusal;
 use std::fmt;
 
 // It stays as it is beside load's `MinutesAndSeconds`: two numbers too, of other things.

@@ -3,8 +3,8 @@
 // the text. A refused record stands for a blank panel.
 use crate::answers::Answer;
 use crate::lending::lend;
-use limits::refusal::Refusal;
 use panel::Panel;
+use refusals::refusal::Refusal;
 use std::io;
 
 // What the call answers, and the 400 numbers.
@@ -47,6 +47,6 @@ impl Answer for Filled {
 
 // Kept as it is beside `write` of `writes`: each is one call of `lend`, and its answer has its own `impl Answer`.
 pub fn fill(p: Panel, space: usize) -> Filled {
-    let (answer, entries) = lend([7; 400], space, |out| charring::calls::depth_table(p, out));
+    let (answer, entries) = lend([7; 400], space, |out| phases::calls::depth_table(p, out));
     Filled { answer, entries }
 }

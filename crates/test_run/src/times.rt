@@ -3,8 +3,8 @@
 // or the refusal, and the text.
 use basic_times::Role;
 use basic_times::calls::basic_time;
-use limits::refusal::Refusal;
 use panel::Material;
+use refusals::refusal::Refusal;
 
 // None for another word.
 pub fn time(word: &[u8], h: u16) -> Option<Result<u32, Refusal>> {

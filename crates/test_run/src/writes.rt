@@ -2,8 +2,8 @@
 // Prints the writer's answer, all 64 bytes, and the text. A refused record stands for a blank panel.
 use crate::answers::Answer;
 use crate::lending::lend;
-use limits::refusal::Refusal;
 use panel::Panel;
+use refusals::refusal::Refusal;
 use std::io;
 use test_lines::output;
 

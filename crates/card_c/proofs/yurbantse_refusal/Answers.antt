@@ -1,7 +1,7 @@
 -- `card_c::yurbantse_refusal` meets its contract: the text of a refusal is no longer than 19 bytes. Assumes nothing.
 use Rattle.card_c.proofs.Numbers.{short_text}
 use Rattle.card_c.specs.Exported.{Short}
-use Rattle.card_text.proofs.Lengths.{length_line}
+use Rattle.text_lines.proofs.Lengths.{length_line}
 use Rattle.fire_card.specs.Card.{refusal_head, refusal_text}
 use mathlib.Core.List.{[], ◌∷◌}
 use mathlib.Core.Path.{sym, subst}

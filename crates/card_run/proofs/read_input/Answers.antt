@@ -3,15 +3,15 @@ use Rattle.std.proofs.Common.{◌≡◌, ℕ, List, take, Result, Ok, Err, None,
 use Rattle.std.specs.declared.option.Option.{Option}
 use Rattle.fire_card.proofs.Prints.{printed_first}
 use Rattle.fire_card.specs.Printed.{printed_text}
-use Rattle.card_run.specs.Input.{SpeaksForAll}
+use Rattle.card_run.specs.Input.{PrintsAsWhole}
 use Rattle.card_run.specs.declared.TheConstants.{ROOM}
 use Rattle.card_run.proofs.read_input.Goals as goal
 
-speaks : (bytes : List ℕ) → SpeaksForAll ROOM bytes
+speaks : (bytes : List ℕ) → PrintsAsWhole ROOM bytes
 speaks bytes = λ input e. ap printed_text e ∙ printed_first input ROOM (lit≤ tt)
 
 module _ {A E : Type 0} (bytes : A → List ℕ) where
-  speaks_if_ok : (r : Result A E) → IfOk r (λ read. SpeaksForAll ROOM (bytes read))
+  speaks_if_ok : (r : Result A E) → IfOk r (λ read. PrintsAsWhole ROOM (bytes read))
   speaks_if_ok (Ok read) = speaks (bytes read)
   speaks_if_ok (Err e) = tt
 

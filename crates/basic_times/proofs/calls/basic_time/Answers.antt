@@ -2,9 +2,9 @@
 use Rattle.std.proofs.Common.{◌≡◌, ℕ, Bool, true, false, Result, Ok, Err, refl, ap, ◌∙◌}
 use Rattle.basic_times.specs.Answers.{bare_line, time_answer}
 use Rattle.basic_times.specs.Rules.{basic_time}
-use Rattle.limits.proofs.FirstLine.{handed}
-use Rattle.limits.specs.Numbers.{line_number, by_number, refused_if}
-use Rattle.limits.specs.declared.refusal.Refusal.{Refusal}
+use Rattle.refusals.proofs.FirstLine.{handed}
+use Rattle.refusals.specs.Numbers.{line_number, by_number, refused_if}
+use Rattle.refusals.specs.declared.refusal.Refusal.{Refusal}
 use Rattle.panel.specs.Materials.{bad_thickness}
 use Rattle.basic_times.proofs.calls.basic_time.Goals as goal
 

@@ -1,4 +1,4 @@
--- `fire_card::lines::push_chars` meets its contract: after i turns the first i lines have been added.
+-- `fire_card::lines::push_chars` meets its contract: after i rounds the first i lines have been added.
 use Rattle.std.proofs.Common.{◌≡◌, ◌+◌, ◌*◌, ◌≤◌, ◌++◌, length, take}
 use Rattle.std.specs.List.{flat_map}
 use Rattle.fire_card.specs.Card.{char_line}

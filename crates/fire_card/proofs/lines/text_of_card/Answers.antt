@@ -1,6 +1,6 @@
 -- `fire_card::lines::text_of_card` meets its contract: the depths of the fire that is shown, and the lesser times. Assumes nothing.
 use Rattle.std.proofs.Common.{ℕ, List, [], ◌∷◌, ◌++◌, ap, ap₂, ◌∙◌}
-use Rattle.card_text.specs.Text.{text_line}
+use Rattle.text_lines.specs.Text.{text_line}
 use Rattle.charring.proofs.Accepted.{fire_fits}
 use Rattle.fire_card.specs.Card.{card_head, char_lines, rating_lines, text_of_card}
 use Rattle.panel.specs.declared.Panel.{Panel}

@@ -1,4 +1,4 @@
--- `layers::sums::protected` meets its contract: after i turns the sum is that of the first i lamellae, or both are enough. Assumes nothing.
+-- `layers::sums::protected` meets its contract: after i rounds the sum is that of the first i lamellae, or both are enough. Assumes nothing.
 use Prim.Native.Nat.{ℕ, min}
 use Rattle.layers.proofs.Runs.{protected_more, more_up_to, enough_up_to}
 use Rattle.basic_times.specs.declared.Role.TheVariants.{Protection}

@@ -1,4 +1,4 @@
--- `layers::sums::protected` meets its contract: after i turns the sum is that of the first i lamellae. Assumes nothing.
+-- `layers::sums::protected` meets its contract: after i rounds the sum is that of the first i lamellae. Assumes nothing.
 use Prim.Native.Nat.{ℕ, ◌+◌, ◌*◌, ◌≤◌}
 use Rattle.basic_times.specs.Rules.{longest_time}
 use Rattle.layers.specs.Kept.{SameUpTo}

@@ -1,8 +1,8 @@
 -- `limits::calls::section` meets its contract: the section is worked out of a panel that no line refuses. Assumes nothing.
 use Rattle.std.proofs.Common.{◌≡◌, Bool, Ok, ap, ◌∙◌}
-use Rattle.limits.proofs.FirstLine.{accepted_with, goes_on}
+use Rattle.refusals.proofs.FirstLine.{accepted_with, goes_on}
 use Rattle.limits.specs.Answers.{section_answer, accepted_answer}
-use Rattle.limits.specs.Refusals.{panel_refusal}
+use Rattle.refusals.specs.Refusals.{panel_refusal}
 use Rattle.panel.specs.Faces.{shown}
 use Rattle.panel.specs.declared.Panel.{Panel}
 use Rattle.section.specs.declared.Section.{Section}

@@ -1,9 +1,9 @@
 -- `load::calls::reserve` meets its contract: the load minute of an accepted panel less a minute that is not above 360. Assumes
 -- nothing.
 use Rattle.std.proofs.Common.{Ok, ℕ, sym, ap, subst, ◌∙◌}
-use Rattle.charring.proofs.Replies.{minute_taken}
-use Rattle.charring.specs.Answers.{minute_refusal, asked_answer}
-use Rattle.limits.proofs.FirstLine.{accepted_with, handed_on, goes_on}
+use Rattle.limits.proofs.Minutes.{minute_taken}
+use Rattle.limits.specs.Asked.{minute_refusal, asked_answer}
+use Rattle.refusals.proofs.FirstLine.{accepted_with, handed_on, goes_on}
 use Rattle.load.proofs.EveryFire.{printed_most}
 use Rattle.load.proofs.Reserves.{reserve_fits}
 use Rattle.load.specs.Answers.{reserve_of, reserve_answer}

@@ -1,15 +1,12 @@
--- `load::lasting::every_depth_passes` meets its contract: every depth to `reached` passes, and a single depth that does not pass decides.
--- Assumes nothing.
-use Prim.Native.Nat.{◌+◌, ◌-◌, ◌*◌, ◌≤◌, ◌<◌}
-use Rattle.load.specs.Failure.{EveryTenthPasses}
-use Rattle.section.specs.Tests.{section_at, depth_passes}
+-- `load::lasting::every_depth_passes` meets its contract: what is still asked of the depths is what was asked at first. Assumes nothing.
+use Rattle.section.specs.Tests.{passes_under}
+use Rattle.load.specs.LoadMinute.{every_through}
+use Rattle.load.specs.Reach.{left_passes, most_ranges}
 use mathlib.Core.Path.{◌≡◌}
 use Rattle.load.proofs.lasting.every_depth_passes.Given as goal
 
-abbrev pub invariant-loop-reached : goal.invariant-loop-reached
-invariant-loop-reached l = (l.reached ≤ l.deepest)
-    × ((l.reached < l.deepest → 1 ≤ l.ahead) × ((l.ahead ≤ 8000) × ((l.shallow.section ≡ section_at l.fn.p l.reached) × EveryTenthPasses (depth_passes l.fn.p) l.reached)))
+abbrev pub invariant-loop-reach : goal.invariant-loop-reach
+invariant-loop-reach l = left_passes l.reach ≡ every_through (passes_under l.fn.moment l.fn.p) l.fn.first l.fn.last
 
--- k depths that pass take away 3k and leave 2k ahead; where they do not, less is ahead
-abbrev pub decreases-loop-reached : goal.decreases-loop-reached
-decreases-loop-reached l = 3 * (l.deepest - l.reached) + l.ahead
+abbrev pub decreases-loop-reach : goal.decreases-loop-reach
+decreases-loop-reach l = most_ranges l.reach

@@ -1,11 +1,11 @@
--- `load::lasting::lasts` meets its contract: each fire of a panel that no line above 13 turns back is that of such a panel.
+-- `load::lasting::lasts` meets its contract: each fire of a panel that no line above 13 refuses is that of such a panel.
 -- Assumes nothing.
 use Rattle.std.proofs.lemmas.Bool.{false_from_ne_true}
 use Rattle.charring.proofs.Accepted.{fire_part}
-use Rattle.charring.specs.Fits.{FireFits}
+use Rattle.charring.specs.Fits.{CharringFits}
 use Rattle.limits.proofs.Accepted.{to12_keeps}
-use Rattle.limits.proofs.Turned.{to12_turned}
-use Rattle.limits.specs.Refusals.{refusal_to12}
+use Rattle.refusals.proofs.Turned.{to12_turned}
+use Rattle.refusals.specs.Refusals.{refusal_before_section}
 use Rattle.load.specs.Lasting.{lasts}
 use Rattle.load.specs.LoadMinute.{time_test}
 use Rattle.numbers.proofs.Booleans.{not_both}
@@ -20,12 +20,12 @@ use Rattle.load.proofs.lasting.lasts.Goals.{After-fire_lasts}
 
 -- what a fire asks for
 abbrev Fits : Panel → Type 0
-Fits p = SectionFits p × FireFits p
+Fits p = SectionFits p × CharringFits p
 
-fits : (p : Panel) → refusal_to12 p ≡ 0 → Fits p
+fits : (p : Panel) → refusal_before_section p ≡ 0 → Fits p
 fits p e = ((to12_keeps p e).section, fire_part p (to12_keeps p e))
 
-turned_fits : (p : Panel) → refusal_to12 p ≡ 0 → Fits (turned p)
+turned_fits : (p : Panel) → refusal_before_section p ≡ 0 → Fits (turned p)
 turned_fits p e = fits (turned p) (to12_turned p ∙ e)
 
 -- what is answered of the fire that is shown

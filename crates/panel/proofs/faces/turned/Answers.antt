@@ -17,17 +17,4 @@ returns c =
     let thicknesses =
     c.last_first-2.ensures
     ∙ turned_places (λ (l : Lamella). l.thickness) (lamellae p) p.thicknesses n (thicknesses_lamellae_of p.directions p.thicknesses n (search rules)) long in
-    λ i. record {
-      version = p.version;
-      face = p.face;
-      bond = p.bond;
-      rate = p.rate;
-      gap = p.gap;
-      strength = p.strength;
-      moment = p.moment;
-      failure_time = p.failure_time;
-      cladding = p.cladding;
-      count = sym (turned_count p) i;
-      directions = directions i;
-      thicknesses = thicknesses i;
-    }
+    λ i. record p { count = sym (turned_count p) i; directions = directions i; thicknesses = thicknesses i }

@@ -1,13 +1,14 @@
 -- `planing::cuts::is_lowered` meets its contract: neither R nor the grade need be worked out. Assumes nothing.
 use Prim.Native.Nat.{◌≤◌, min}
 use Rattle.layers.specs.Layers.{printed_ei}
-use Rattle.limits.specs.Causes.{last_minute}
-use Rattle.planing.proofs.Lowering.{below_up_to, fails_lowered, lasting_accepted, lasting_by_ei}
+use Rattle.refusals.specs.Causes.{last_minute}
+use Rattle.planing.proofs.Lowering.{fails_lowered, lasting_accepted, lasting_by_ei}
 use Rattle.panel.specs.declared.Panel.{Panel}
 use lib.Dec.{ltb}
 use mathlib.Core.Path.{sym, ap, ap₂, subst, ◌∙◌}
 use Rattle.planing.proofs.cuts.is_lowered.Goals as goal
 use Rattle.planing.proofs.cuts.is_lowered.Goals.{After-number-least}
+use Rattle.numbers.proofs.Lesser.{below_up_to}
 
 most : (c : After-number-least) → c.args.minutes ≤ last_minute
 most c = subst (λ n. n ≤ last_minute) c.number-least.ensures.number c.number-least.ensures.most

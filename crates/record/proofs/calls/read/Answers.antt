@@ -1,8 +1,8 @@
 -- `record::calls::read` meets its contract: the panel is handed out where no line fits. Assumes nothing.
 use Rattle.std.proofs.Common.{◌∙◌}
-use Rattle.limits.specs.Lines.{refusal, unless_refused}
-use Rattle.limits.specs.Refusals.{table_lines}
-use Rattle.limits.specs.declared.ByteFaults.{ByteFaults}
+use Rattle.refusals.specs.Lines.{refusal, unless_refused}
+use Rattle.refusals.specs.Refusals.{table_lines}
+use Rattle.refusals.specs.declared.ByteFaults.{ByteFaults}
 use Rattle.panel.specs.declared.Panel.{Panel}
 use Rattle.record.specs.Answers.{decode}
 use Rattle.record.specs.Refusals.{record_refusal}

@@ -1,4 +1,4 @@
--- `record::reader::lamellae_in` meets its contract: after i turns the arrays hold the first i lamellae.
+-- `record::reader::lamellae_in` meets its contract: after i rounds the arrays hold the first i lamellae.
 use Prim.Native.Nat.{ℕ, ◌+◌, ◌*◌, ◌<◌}
 use Rattle.numbers.proofs.Words.{word_at}
 use Rattle.panel.specs.Lamellae.{Lamella}

@@ -1,4 +1,4 @@
--- `record::reader::lamellae_in` meets its contract: after i turns the arrays hold the first i lamellae.
+-- `record::reader::lamellae_in` meets its contract: after i rounds the arrays hold the first i lamellae.
 -- Assumes nothing.
 use Rattle.record.specs.Layouts.{lamellae_in}
 use Rattle.panel.specs.Lamellae.{directions_of, thicknesses_of}

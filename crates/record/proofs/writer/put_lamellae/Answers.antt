@@ -1,4 +1,4 @@
--- `record::writer::put_lamellae` meets its contract: after i turns the first i lamellae are stored, and the others are left.
+-- `record::writer::put_lamellae` meets its contract: after i rounds the first i lamellae are stored, and the others are left.
 use Prim.Native.Nat.{ℕ, ◌+◌, ◌*◌, ◌≤◌, ◌<◌}
 use Rattle.numbers.proofs.Lists.{then_put}
 use Rattle.numbers.specs.Bytes.{join}

@@ -1,4 +1,4 @@
--- `record::writer::put_lamellae` meets its contract: after i turns the first i lamellae are stored, and the others are left.
+-- `record::writer::put_lamellae` meets its contract: after i rounds the first i lamellae are stored, and the others are left.
 -- Assumes nothing.
 use Prim.Native.Nat.{◌≤◌}
 use Rattle.panel.specs.Lamellae.{lamellae_of}

@@ -7,8 +7,7 @@ use Rattle.panel.proofs.Lent.{next_lamella, no_lamella_left}
 use Rattle.panel.specs.Lamellae.{lamella}
 use Rattle.panel.specs.Lent.{lamellae_in}
 use Rattle.section.specs.Sections.{counted, section_of}
-use Rattle.section.proofs.Chains.{counted_bounds}
-use Rattle.section.proofs.NothingCut.{nothing_cut}
+use Rattle.section.proofs.NothingCut.{remains}
 use Rattle.section.proofs.Growing.{summed_start, summed_more, summed_fits, summed_all}
 use Rattle.section.proofs.sums.section_in.Goals as goal
 use Rattle.section.proofs.sums.section_in.Goals.{In-Some, In-None}
@@ -46,7 +45,8 @@ pub invariant_of-result : goal.invariant_of-result
 invariant_of-result c =
     let ls = lamellae_in c.args.lamellae in
     let here = all (goal.at.invariant_of-result c).In-None in
-    record { bounds = rw here (counted_bounds c.args.depth ls c.requires); uncut = rw here (nothing_cut c.args.depth ls) }
+    let both = remains c.args.depth ls c.requires here in
+    record { bounds = both.0; uncut = both.1 }
 
 pub returns : goal.returns
 returns c = all (goal.at.returns c).In-None

@@ -1,11 +1,7 @@
--- A panel that no line turns back keeps what the carrying asks of its lamellae.
-use Rattle.std.proofs.Common.{◌≡◌, ap, ◌∙◌, arith}
-use Rattle.limits.proofs.Accepted.{accepted_fits}
-use Rattle.limits.proofs.Carried.{accepted_thick, accepted_lamellae}
-use Rattle.limits.specs.Refusals.{panel_refusal}
+-- A panel that no line refuses keeps what the carrying asks of its lamellae.
+use Rattle.std.proofs.Common.{ap, ◌∙◌, arith}
+use Rattle.carried.proofs.EitherFire.{accepted_lamellae}
 use Rattle.panel.specs.Lamellae.{lamellae}
-use Rattle.panel.specs.declared.Panel.{Panel}
-use Rattle.section.specs.Carrying.{LamellaeFit}
 use Rattle.test_run.proofs.sections.carried_to.Goals as goal
 
 pub start-c-requires : goal.start-c-requires

@@ -1,9 +1,9 @@
 -- `limits::check::Accepted::in_bytes` meets its contract: a panel is accepted where no line of the table fits. Assumes nothing.
 use Rattle.std.proofs.Common.{refl, Ok}
-use Rattle.limits.proofs.Accepted.{table_accepted}
-use Rattle.limits.proofs.FirstLine.{accepted_with, handed_on, goes_on}
-use Rattle.limits.specs.Lines.{refusal}
-use Rattle.limits.specs.Refusals.{table_lines}
+use Rattle.refusals.proofs.PanelTable.{table_accepted}
+use Rattle.refusals.proofs.FirstLine.{accepted_with, handed_on, goes_on}
+use Rattle.refusals.specs.Lines.{refusal}
+use Rattle.refusals.specs.Refusals.{table_lines}
 use Rattle.limits.proofs.check.Accepted.in_bytes.Goals as goal
 
 pub returns-in_err-check_table : goal.returns-in_err-check_table

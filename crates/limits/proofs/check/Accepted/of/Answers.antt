@@ -1,6 +1,6 @@
 -- `limits::check::Accepted::of` meets its contract: it is the table of a panel without bytes. Assumes nothing.
 use Rattle.limits.specs.Answers.{accepted_answer}
-use Rattle.limits.specs.Refusals.{panel_refusal}
+use Rattle.refusals.specs.Refusals.{panel_refusal}
 use Rattle.limits.proofs.check.Accepted.of.Goals as goal
 
 pub returns : goal.returns

@@ -1,6 +1,6 @@
 -- `limits::check::Accepted::shown` meets its contract: the fire that is shown is that of an accepted panel. Assumes nothing.
 use Rattle.limits.proofs.Accepted.{accepted_fits}
-use Rattle.limits.proofs.Turned.{shown_accepted}
+use Rattle.refusals.proofs.Turned.{shown_accepted}
 use Rattle.limits.proofs.check.Accepted.shown.Goals as goal
 
 pub shown-requires : goal.shown-requires

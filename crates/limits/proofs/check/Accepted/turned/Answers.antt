@@ -1,7 +1,7 @@
 -- `limits::check::Accepted::turned` meets its contract: a turned panel meets the lines of the panel. Assumes nothing.
 use Rattle.std.proofs.Common.{◌∙◌}
 use Rattle.limits.proofs.Accepted.{accepted_fits}
-use Rattle.limits.proofs.Turned.{refusal_turned}
+use Rattle.refusals.proofs.Turned.{refusal_turned}
 use Rattle.limits.proofs.check.Accepted.turned.Goals as goal
 
 pub turned-requires : goal.turned-requires

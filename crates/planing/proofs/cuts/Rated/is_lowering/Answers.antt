@@ -3,11 +3,11 @@
 use Prim.Native.Nat.{ℕ, suc, ◌+◌, ◌<◌, ◌≤◌}
 use Rattle.grades.specs.Grades.{grade_of}
 use Rattle.grades.specs.declared.Grade.{Grade}
-use Rattle.limits.proofs.Unused.{to12_unused}
-use Rattle.limits.specs.Causes.{last_minute}
+use Rattle.refusals.proofs.Unused.{to12_unused}
+use Rattle.refusals.specs.Causes.{last_minute}
 use Rattle.panel.specs.declared.Panel.{Panel}
 use Rattle.planing.proofs.CutArrays.{allowed_at}
-use Rattle.planing.proofs.CutPanels.{cut_to12}
+use Rattle.planing.proofs.CutPanels.{cut_before_section}
 use Rattle.planing.proofs.Lowering.{rei_is_grade}
 use Rattle.planing.proofs.Unused.{lowered_same}
 use Rattle.planing.specs.Answers.{place_on, cut_behind, lowering}
@@ -70,7 +70,7 @@ is_lowered-requires c =
     let cut = cut_of at.result c.args.tenths in
     let kept = thick_enough x.panel at.result c.args.tenths at.ensures.within.0 c.requires.tenths_nonzero.0 c.if-self-at.false in record {
       minutes_of_grade = rw c.of.ensures (subst (λ (g : Grade). (grade_of g.minutes).minutes ≡ g.minutes) (sym x.by_rei) (rei_is_grade x.panel).1);
-      q_value = to12_unused c.cut_panel.result (cut_panel x.panel cut) c.cut_panel.ensures ∙ cut_to12 x.panel cut x.accepted kept;
+      q_value = to12_unused c.cut_panel.result (cut_panel x.panel cut) c.cut_panel.ensures ∙ cut_before_section x.panel cut x.accepted kept;
     }
 
 pub returns : goal.returns

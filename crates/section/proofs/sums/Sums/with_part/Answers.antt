@@ -7,8 +7,8 @@ use native.Mathlib.Omega.{arith}
 use lib.Dec.{eqb}
 use Rattle.numbers.specs.Choice.{pick}
 use Rattle.section.specs.Growing.{with_part}
-use Rattle.section.proofs.Products.{square_rises, cube_rises}
 use Rattle.section.proofs.sums.Sums.with_part.Goals as goal
+use Rattle.numbers.proofs.Products.{square_rises, cube_rises}
 
 either_within : (first : Bool) (x y most : ℕ) → x ≤ most → y ≤ most → pick first x y ≤ most
 either_within true x y most one other = one

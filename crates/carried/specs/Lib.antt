@@ -1,0 +1,2 @@
+pub mod Carried
+pub mod Carrying

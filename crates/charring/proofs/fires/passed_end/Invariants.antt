@@ -1,8 +1,0 @@
--- `charring::fires::passed_end` meets its contract. The loop's invariant: what will come out is unchanged. Assumes nothing.
-use mathlib.Core.Path.{◌≡◌}
-use Rattle.charring.specs.Fires.{passed_end}
-use Rattle.charring.specs.Ways.{lines_left}
-use Rattle.charring.proofs.fires.passed_end.Given as goal
-
-abbrev pub invariant-loop-line : goal.invariant-loop-line
-invariant-loop-line l = passed_end l.deep l.end (lines_left l.line-iterator) ≡ passed_end l.deep l.intact (lines_left l.fn.lines)
