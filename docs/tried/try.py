@@ -1,4 +1,4 @@
-"""try.py [CRATE[/NAME] ..]
+"""try.py [--apply] [CRATE[/NAME] ..]
 
 Tries mutations: docs/tried/CRATE/NAME.edit, with no argument all of them, changes a definition or the code of a crate and leaves the
 proofs as they are. Each is applied to a copy of the repository (a clone of HEAD, in a temporary folder), and `rt check` runs in the crate,
@@ -8,6 +8,8 @@ and where that accepts, in the crates above it, in the order of crates.txt, unti
 An edit is in the form of the must-fail edits, with a second comment line: `# refused: X: FACT[, FACT]`, or `# accepted: why` where no crate
 refuses. Ends with status 1 where a mutation is accepted, or refused, otherwise than this line says: by another crate, or with a fact
 of the line not among those that the check names. What does not apply or compile counts as neither, and ends with status 1 too. Wants `rt`.
+
+With --apply nothing is tried: says which mutations can no longer be applied to the working tree, and ends with status 1 if there is one.
 """
 import re
 import subprocess
@@ -190,8 +192,23 @@ def chosen(words):
     return edits
 
 
+def not_applied(edits):
+    """What stands in the way of the edits that cannot be applied to the working tree."""
+    for edit in edits:
+        for file, old, _ in edit.changes:
+            path = REPOSITORY / "crates" / edit.crate / file
+            times = path.read_text().count(old) if path.exists() else 0
+            if times != 1:
+                yield f"{edit}: the old text stands {times} times in {file}: {old}"
+
+
 def main():
-    edits = chosen(sys.argv[1:])
+    apply_only = sys.argv[1:2] == ["--apply"]
+    edits = chosen(sys.argv[2 if apply_only else 1:])
+    if apply_only:
+        bad = list(not_applied(edits))
+        print("\n".join(bad + [f"{len(edits)} mutations, {len(bad)} cannot be applied"]))
+        sys.exit(1 if bad else 0)
     with tempfile.TemporaryDirectory() as folder:
         copy = Path(folder) / "copy"
         subprocess.run(["git", "clone", "--quiet", str(REPOSITORY), str(copy)], check=True)
