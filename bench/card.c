@@ -351,7 +351,7 @@ static uint32_t load_second(const Panel *p, const CharringValues *f)
     return (uint32_t)second;
 }
 
-/* ---- layer times, in hundredths of a minute */
+/* ---- layer times, in thousandths of a minute */
 
 static uint64_t late_time(uint64_t s, uint64_t t)
 {
@@ -388,7 +388,7 @@ static uint32_t ei_minute(const Panel *p)
     for (size_t i = 0; i + 1 < p->count; i++)
         s += layer_time(s, WOOD_PROTECTION[p->thicknesses[i] - 100], 100);
     s += layer_time(s, WOOD_INSULATION[p->thicknesses[p->count - 1] - 100], 100);
-    return (uint32_t)smaller(s / 100, 360);
+    return (uint32_t)smaller(s / 1000, 360);
 }
 
 static uint32_t grade(uint32_t minute)

@@ -26,7 +26,7 @@ def write_tables(path):
     with open(path, "w") as file:
         file.write("#include <stdint.h>\n")
         for table in ("gypsum_protection", "osb_protection", "particle_board_protection", "wood_protection", "wood_insulation"):
-            file.write(f"static const uint16_t {table.upper()}[] = {{{', '.join(map(str, peer.entries(table)))}}};\n")
+            file.write(f"static const uint32_t {table.upper()}[] = {{{', '.join(map(str, peer.entries(table)))}}};\n")
 
 
 def build(archive, folder, compiler):

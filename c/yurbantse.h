@@ -26,7 +26,7 @@ extern "C" {
 
 /* The text that this header was written for: document 01 with the requests of document 02 from the first to this one. Hold the library to it
    once: yurbantse_version() == YURBANTSE_VERSION. */
-#define YURBANTSE_VERSION 7
+#define YURBANTSE_VERSION 8
 
 /* The last request that is in the library. */
 uint32_t yurbantse_version(void);
@@ -57,7 +57,7 @@ int32_t yurbantse_refusal(uint8_t n, uint8_t *out, size_t out_length);
 /* How much may be planed off one lamella alone, which keeps at least 10.0 mm, before the REI grade of the record's panel falls: the least
    cut that lowers it. Answers
 
-     1,000 times the lamella's place in the record, from 1, and the tenths of mm taken off it: 2036 is 3.6 mm off the second lamella. With
+     1,000 times the lamella's place in the record, from 1, and the tenths of mm taken off it: 2037 is 3.7 mm off the second lamella. With
        as much at several places it is the one nearest the fire, for face 2 nearest the first face. A panel that would meet 13 counts as
        lowered. A lesser cut of any lamella lowers nothing, but a greater one may leave the grade as it is: EI can rise again.
      0 where no cut of any lamella lowers the grade;

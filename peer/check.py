@@ -1,6 +1,6 @@
 """check.py [N]: holds peer.py to the figures of documents 01 and 02 and of the notes on its readings, R and RS to their definition on the
-panels of test_calls/data/cards, in either fire, and on N random ones, the last face's fire to that of a panel recorded the other way round, and cuts
-to the grades of the cut panels."""
+panels of test_calls/data/cards, in either fire, and on N random ones, the last face's fire to that of a panel recorded the other way round, cuts
+to the grades of the cut panels, and on ten times N panels the sum of the layer times to that in coarser parts of a minute."""
 import argparse
 import random
 from fractions import Fraction
@@ -8,8 +8,8 @@ from itertools import chain
 
 import peer
 import random_records
-from make_cases import (A, ALONG, F, G, H, LONGEST, O, P, RECOVERS, SHORTEST, SWITCHING, behind, clad, crossed, faced, falls, load_panels, one,
-                        patched, plate, reading_cases, second_panels, second_walls, two, wall_panels, with_first_lamella,
+from make_cases import (A, ALONG, F, G, H, LONGEST, O, P, RECOVERS, SHORTEST, SWITCHING, WALL, behind, clad, crossed, faced, falls, load_panels,
+                        one, patched, plate, reading_cases, second_panels, second_walls, two, wall_panels, with_first_lamella,
                         with_length)
 from peer import Board, EACH_ALONE, FIRST_FACE, LAST_FACE
 from random_records import greatest_moment
@@ -51,10 +51,10 @@ def check_document():
     same((peer.exact_failure(G), peer.load_time(G)), (Fraction(6_740, 65), (103, 41)))
     same([peer.load_minute(panel) for panel in (G, falls(G, 65), G._replace(moment=0))], [103, 84, 138])
     same([peer.depth_passes(RECOVERS, depth) for depth in (70, 71)], [False, True])
-    same([peer.entry(f"gypsum_{role}", 150) for role in ROLES], [3000, 2400])
-    same([peer.entry(f"wood_{role}", h) for h in (200, 400) for role in ROLES], [3000, 1900, 6430, 5014])
-    same(peer.entry("wood_insulation", 300), 3351)
-    same([peer.ei_sum(panel) for panel in (G, crossed(20, 20, 20)._replace(boards=one().boards))], [9506, 5933])
+    same([peer.entry(f"gypsum_{role}", 150) for role in ROLES], [30_000, 24_000])
+    same([peer.entry(f"wood_{role}", h) for h in (200, 400) for role in ROLES], [30_000, 19_000, 64_306, 50_141])
+    same(peer.entry("wood_insulation", 300), 33_518)
+    same([peer.ei_sum(panel) for panel in (G, crossed(20, 20, 20)._replace(boards=one().boards))], [95_079, 59_345])
     same([peer.panel_refusal(one(thickness=thickness)) for thickness in (89, 90, 250, 251)], [8, 0, 0, 8])
     same([peer.panel_refusal(with_first_lamella(G, ALONG, thickness)) for thickness in (99, 100)], [11, 0])
     same(peer.text_lines(peer.encode(G)), PRINTED)
@@ -63,8 +63,11 @@ def check_document():
 
 
 def check_wood_boards():
-    """Document 02, 1/14: at 20.0 mm the bases stand in the rules, and charring starts after 20 mm at 0.90 mm/min."""
-    same([peer.entry(f"{material}_{role}", 200) for material in ("osb", "particle_board") for role in ROLES], [2300, 1600, 3300, 2200])
+    """Document 02, 1/14: at 20.0 mm the bases stand in the rules, at 40.0 mm 2^1.1 and 2^1.4 times as much, and charring starts after 20 mm at
+    0.90 mm/min."""
+    for h, times in ((200, [23_000, 16_000, 33_000, 22_000]), (400, [49_301, 42_224, 70_737, 58_058])):
+        same([peer.entry(f"{material}_{role}", h) for material in ("osb", "particle_board") for role in ROLES], times)
+    same([peer.ei_sum(panel) for panel in (one(O, 200, gap=1), one(P, 400))], [100_697, 125_984])
     same([peer.t_ch(one(O, 200, gap=gap)) for gap in (0, 1)], [22_222, 22_222])
     for kind in (O, P):
         same([peer.panel_refusal(one(kind, thickness)) for thickness in (199, 200, 400, 401)], [8, 0, 0, 8])
@@ -111,10 +114,10 @@ def check_faces(panel):
 
 
 def check_readings():
-    """The base records of the notes, by their numbers there."""
-    same(peer.ei_minute(of("001f0100640100f000000aef01000000004800960103000091010190000068")), 73)  # 1
-    same(peer.ei_sum(of("00230101410000f0000000030200000000480096504100b450030000a2010090000078")), 5999)  # 2
-    same(peer.ei_minute(of("001c0101320001900000000001000000004800960102010190000064")), 65)
+    """Records on which the document can be read two ways, by the numbers of the notes."""
+    same(peer.ei_sum(of("001f0100640100f000000aef010000000048009b0103000092010190000065")), 73_999)  # 1: with ⌊0.6·S⌋ taken off 74,000
+    same(peer.ei_sum(of("00230101410000f0000000030200000000480094504100b350030000a501009000007a")), 59_999)  # 2: rounded once 60,000
+    same(peer.ei_sum(of("001c0101320001900000000001000000004800960102010190000064")), 65_629)
     panel = of("001f0101500000f0000001f4010000a02846007d640301007c00012c01012c")  # 3
     same(peer.char(panel, 41), (Fraction(124, 10), ("fast", 3_740_000)))
     same((peer.micrometres(panel, 60), peer.effective_tenths(panel, 60)), (40100, 471))
@@ -131,6 +134,22 @@ def check_readings():
     for moment, failure, time in ((42_000, Fraction(48, 60), (0, 48)), (43_056, 0, (0, 0))):
         panel = G._replace(moment=moment)
         same((peer.exact_failure(panel), peer.load_minute(panel), peer.load_time(panel)), (failure, 0, time))
+
+
+def check_walls():
+    """What the layers of a wall give in the fire on its first face, on its last, and on each alone."""
+    sums = [peer.ei_sum(faced(WALL, face)) for face in (FIRST_FACE, LAST_FACE, EACH_ALONE)]
+    same((sums, [peer.ei_minute(faced(WALL, face)) for face in (FIRST_FACE, LAST_FACE, EACH_ALONE)]), ([82_340, 88_817, 82_340], [82, 88, 82]))
+
+
+def check_parts(count):
+    """Finer parts of a minute take nothing off: in thousandths a sum is ten times that in hundredths or more, and EI no less."""
+    rng = random.Random("parts")
+    for number in range(count):
+        kind = random_records.at_switch if number % 10 == 0 else lambda rng: random_records.random_panel(rng)._replace(moment=0)
+        panel = random_records.any_face(rng, kind(rng))
+        same(peer.panel_refusal(panel), 0)
+        same((peer.ei_sum(panel, 1_000) >= 10 * peer.ei_sum(panel, 100), peer.ei_minute(panel, 1_000) >= peer.ei_minute(panel, 100)), (True, True))
 
 
 def check_load_minutes(count):
@@ -170,6 +189,8 @@ if __name__ == "__main__":
     check_wood_boards()
     check_versions()
     check_readings()
+    check_walls()
+    check_parts(10 * count)
     check_load_minutes(count)
     check_planing(count)
     print("the peer agrees")

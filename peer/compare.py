@@ -65,7 +65,7 @@ def random_layers(rng, record):
     """The record, or half of the time one with a layer at the switch of the layer step."""
     if rng.random() < 0.5:
         return record
-    return random_records.any_record(rng, random_records.at_switch(rng, random_records.random_panel(rng)))
+    return random_records.any_record(rng, random_records.at_switch(rng))
 
 
 def random_minute(rng):

@@ -4,6 +4,7 @@ What a program must print is worked out by peer.py, never by the program itself.
 """
 import os
 import shutil
+from functools import cache
 from itertools import accumulate
 
 import needs
@@ -11,7 +12,7 @@ import peer
 import programs
 from peer import EACH_ALONE, FIRST_FACE, LAST_FACE, Board, G, Panel
 from programs import raw
-from random_records import greatest_moment
+from random_records import greatest_moment, with_lamella, with_layer_at_switch
 
 A, F, H, O, P = b"AFHOP"
 ACROSS, ALONG = 0, 1
@@ -237,8 +238,8 @@ def lamella_count_cases():
 def reading_cases():
     """(panel, text): panels on which the document can be read two ways; for the record all are accepted."""
     thin = ((ALONG, 100), (ACROSS, 300), (ALONG, 300))
-    yield Panel(1, 0, 0, 100, 1, 240, 2_799, 0, (Board(H, 150, 1),), ((ACROSS, 145), (ALONG, 400), (ACROSS, 104))), "layer step rounded as a whole"
-    yield Panel(1, 0, 1, 65, 0, 240, 3, 0, (Board(H, 150, 80), Board(A, 180, 80)), ((ACROSS, 162), (ALONG, 144), (ACROSS, 120))), "two roundings in a layer"
+    yield Panel(1, 0, 0, 100, 1, 240, 2_799, 0, (Board(H, 155, 1),), ((ACROSS, 146), (ALONG, 400), (ACROSS, 101))), "layer step rounded as a whole"
+    yield Panel(1, 0, 1, 65, 0, 240, 3, 0, (Board(H, 148, 80), Board(A, 179, 80)), ((ACROSS, 165), (ALONG, 144), (ACROSS, 122))), "two roundings in a layer"
     yield Panel(1, 0, 1, 50, 0, 400, 0, 0, (Board(H, 150, 1),), ((ALONG, 400), (ACROSS, 100))), "coefficient 1, rounded twice"
     yield Panel(1, 0, 1, 80, 0, 240, 500, 41_000, (Board(F, 125, 100),), ((ALONG, 124),) + thin[1:]), "bond line reached as the board fails"
     yield Panel(1, 0, 1, 80, 0, 240, 500, 71_000, (Board(F, 125, 100),), ((ALONG, 310),) + thin[1:]), "25 mm charred before the board fails"
@@ -543,27 +544,55 @@ def past_switch(panel, layer):
 
 
 def switch_shapes():
-    """(text, layer, panels): panels of one shape, of which some have the layer at the switch."""
-    thicknesses = range(100, 601)
-    yield "last of two lamellae", 1, (
-        G._replace(moment=0, lamellae=((ALONG, first), (ACROSS, last))) for first in thicknesses for last in thicknesses)
-    yield "second of three lamellae", 1, (
-        G._replace(moment=0, lamellae=((ALONG, first), (ACROSS, second), (ALONG, 200)))
-        for first in thicknesses for second in thicknesses)
-    yield "lamella behind a board", 1, (
-        with_first_lamella(one(H, 150, joint), ALONG, first) for joint in range(60, 101) for first in thicknesses)
+    """(text, layer, panels): panels of one shape, in which the thickness of the layer is still open."""
+    pairs = [(first, -second) for first in range(100, 201) for second in range(100, 201)]
+    yield "last of three lamellae", 2, (layered(*pair, 100) for pair in pairs)
+    yield "third of four lamellae", 2, (layered(*pair, 100, -200) for pair in pairs)
+    yield "lamella behind a board", 1, (one(H, thickness, joint) for joint in range(60, 101) for thickness in range(90, 251))
     yield "board behind a board", 1, (
-        clad(Board(A, outer, 45), Board(H, inner, 90)) for outer in range(90, 251) for inner in range(90, 251))
+        clad(Board(A, outer, joint), Board(H, 90, 90)) for joint in range(45, 101) for outer in range(90, 251))
     yield "lamella behind two boards", 2, (
-        with_first_lamella(clad(Board(A, 125, outer), Board(H, 150, 30)), ALONG, first)
-        for outer in range(30, 101) for first in thicknesses)
+        clad(Board(A, 125, joint), Board(H, inner, 30)) for joint in range(30, 101) for inner in range(90, 251))
 
 
 def switch_cases():
     for text, layer, panels in switch_shapes():
         panels = list(panels)
         for past, where in ((-1, "2S = t - 1"), (0, "2S = t"), (1, "2S = t + 1")):
-            yield next(panel for panel in panels if past_switch(panel, layer) == past), f"{text}, {where}"
+            panel = next(filter(None, (with_layer_at_switch(panel, layer, past) for panel in panels)))
+            assert past_switch(panel, layer) == past
+            yield panel, f"{text}, {where}"
+
+
+def with_last_giving(panel, total):
+    """The panel with its last lamella so thick that its layers give so many thousandths of a minute together; None where none is found."""
+    before = sum(peer.layer_times(panel)[:-1])
+
+    def given(thickness):
+        return before + peer.layer_time(peer.entry("wood_insulation", thickness), before, 100)
+
+    thickness = peer.largest(lambda h: h < 100 or h <= 600 and given(h) <= total)
+    return with_lamella(panel, -1, panel.lamellae[-1][0], thickness) if thickness >= 100 and given(thickness) == total else None
+
+
+def about_grade(grade):
+    """Panels without load, of which some have EI about that grade: the thickness of their last lamella is still open."""
+    if grade <= 20:
+        for joint in range(1, 101):
+            for thickness in range(90, 251):
+                yield layered(100, rate=50)._replace(boards=(Board(H, thickness, joint),))
+    else:
+        between = {180: (600,), 240: (600, -600, 600)}.get(grade, ())
+        for first in range(100, 601):
+            for second in range(100, 601):
+                yield layered(first, -second, *between, 100, rate=50)
+
+
+@cache
+def grade_sums():
+    """(panel, text): layers that give the minute of a grade, a thousandth less and a thousandth more; of each grade but 360."""
+    return [(next(filter(None, (with_last_giving(panel, 1_000 * grade + more) for panel in about_grade(grade)))), f"EI {text}{grade} min")
+            for grade in peer.GRADES[:-1] for more, text in ((-1, "a thousandth below "), (0, ""), (1, "a thousandth above "))]
 
 
 def joint_cases():
@@ -602,6 +631,7 @@ def layer_panel_cases():
     thickest = G._replace(moment=0, boards=(Board(H, 250, 100),) * 2, lamellae=((ALONG, 600),) * 6 + ((ALONG, 400),))
     yield thickest, "two boards of 25.0, 400 mm"
     yield from switch_cases()
+    yield from grade_sums()
     yield from wood_board_layer_cases()
     yield from printed_cases()
     yield G._replace(moment=43_057), "a refused record, so a blank panel"
@@ -984,7 +1014,7 @@ def face_cases():
 
 
 def grade_walls():
-    """(panel, text): the lesser EI is that of another face for each, and with it the grade of EI, and REI."""
+    """(panel, text): the lesser EI is that of one face; of the first panel the grade of EI, and REI, differ with it."""
     yield layered(400, 100), "40.0 and 10.0 along"
     yield layered(100, 100, 226, rate=50), "10.0, 10.0 and 22.6 along"
     yield layered(305, 349, 100, rate=50), "30.5, 34.9 and 10.0 along"
@@ -1026,6 +1056,8 @@ def card_cases():
         yield peer.encode(panel), 200, text
     for record, text in list(second_records()) + list(face_cases()) + list(grade_wall_records()):
         yield record, 200, text
+    for panel, text in grade_sums():
+        yield peer.encode(panel), 200, text
     for record, text in list(unstarred_cases()) + list(refused_cases()):
         yield record, 200, text
     yield from space_cases()

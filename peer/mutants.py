@@ -36,7 +36,7 @@ NO_THIRD = "the cladding of a panel is none, one or two boards; of a record more
 ALIKE = "type F stands alone or with F, O and P alone: either board tells"
 BESIDE = "beside a refusal no number is looked at"
 SEARCH = "another search for the same number"
-NO_MORE = "no panel was found whose layers give more than 324 minutes"
+NO_MORE = "no panel was found whose layers give 325 minutes"
 AT_FACE = "at a depth above the first face every lamella is whole, as at depth 0"
 SAME = {
     ("panel_refusal", "if len(panel.boards) > 2: -> pass"): NO_THIRD,
@@ -78,8 +78,8 @@ SAME = {
     ("largest", "found = 0 -> found = -1"): SEARCH,
     ("bare_time", "return (11 if table.startswith(LAMELLA) else 8, 0) -> return (11 if table.startswith(LAMELLA) else 8, 1)"): BESIDE,
     ("bare_time", "return (11 if table.startswith(LAMELLA) else 8, 0) -> return (11 if table.startswith(LAMELLA) else 8, -1)"): BESIDE,
-    ("ei_minute", "return min(360, ei_sum(panel) // 100) -> return min(361, ei_sum(panel) // 100)"): NO_MORE,
-    ("ei_minute", "return min(360, ei_sum(panel) // 100) -> return min(359, ei_sum(panel) // 100)"): NO_MORE,
+    ("ei_minute", "return min(360, ei_sum(panel, parts) // parts) -> return min(361, ei_sum(panel, parts) // parts)"): NO_MORE,
+    ("ei_minute", "return min(360, ei_sum(panel, parts) // parts) -> return min(359, ei_sum(panel, parts) // parts)"): NO_MORE,
     ("graded", "return (refusal, 0) if refusal else (0, grade(minute_of(panel))) -> return (refusal, 1) if refusal else (0, grade(minute_of(panel)))"): BESIDE,
     ("graded", "return (refusal, 0) if refusal else (0, grade(minute_of(panel))) -> return (refusal, -1) if refusal else (0, grade(minute_of(panel)))"): BESIDE,
     ("least_cut", "deepest = max((thickness for _, thickness in panel.lamellae)) - LEAST_KEPT -> "
@@ -124,7 +124,8 @@ MISREADINGS = [
     ("the zero-strength layer by t_f", "max(20_000, t_ch(panel))))", "max(20_000, t_f(panel))))"),
     ("the effective depth goes past the back face", "return min(weakened(panel, minute), Fraction(thickness_of(panel.lamellae), 10))",
      "return weakened(panel, minute)"),
-    ("EI's sum by the first face", "return min(sum(layer_times(fire)) for fire in fires(panel))", "return sum(layer_times(fires(panel)[0]))"),
+    ("EI's sum by the first face", "return min(sum(layer_times(fire, parts)) for fire in fires(panel))",
+     "return sum(layer_times(fires(panel)[0], parts))"),
     ("R by the first face", "return min(map(fire_minute, fires(panel)))", "return fire_minute(fires(panel)[0])"),
     ("RS by the first face", "return min(map(fire_time, fires(panel)))", "return fire_time(fires(panel)[0])"),
     ("planing looks at load alone", "refusal == 0 and ei_minute(panel) >= least and time_passes(panel, least)",
@@ -135,10 +136,26 @@ MISREADINGS = [
     ("of equal cuts the one nearest the first face", "return places[::-1] if panel.face == 1 else places", "return places"),
     ("of equal cuts the one nearest the last face for face 2", "return places[::-1] if panel.face == 1 else places",
      "return places[::-1] if panel.face >= 1 else places"),
-    ("the first lamella's direction counts in EI", "layers += [(entry(\"wood_protection\", thickness), 100) for thickness in thicknesses[:-1]]",
-     "layers += [(entry(\"wood_protection\", thickness), 100) for thickness in thicknesses[:-1]][panel.lamellae[0][0] - 1:]"),
-    ("boards stand on the far face too", "return layers + [(entry(\"wood_insulation\", thicknesses[-1]), 100)]",
-     "return layers + [(entry(\"wood_insulation\", thicknesses[-1]), 100)] + [(entry(MATERIALS[b.kind] + '_insulation', b.thickness), b.joint) for b in panel.boards]"),
+    ("the first lamella's direction counts in EI", "layers += [(entry(\"wood_protection\", thickness, parts), 100) for thickness in thicknesses[:-1]]",
+     "layers += [(entry(\"wood_protection\", thickness, parts), 100) for thickness in thicknesses[:-1]][panel.lamellae[0][0] - 1:]"),
+    ("boards stand on the far face too", "return layers + [(entry(\"wood_insulation\", thicknesses[-1], parts), 100)]",
+     "return layers + [(entry(\"wood_insulation\", thicknesses[-1], parts), 100)] + "
+     "[(entry(MATERIALS[b.kind] + '_insulation', b.thickness, parts), b.joint) for b in panel.boards]"),
+    ("hundredths of a minute", "PARTS = 1_000", "PARTS = 100"),
+    ("basic times rounded to hundredths of a minute", "return basic_time(*TABLES[table][:4], h, parts)",
+     "return parts // 100 * basic_time(*TABLES[table][:4], h, 100)"),
+    ("a base in hundredths of a minute", "<= (base * parts) ** root * h ** power", "<= (base * 100) ** root * h ** power"),
+    ("one table's base in hundredths of a minute", "    return basic_time(*TABLES[table][:4], h, parts)",
+     "    return basic_time(*TABLES[table][:4], h, 100 if table == 'wood_insulation' else parts)"),
+    ("layer times rounded to hundredths of a minute", "return behind * joint // 100", "return behind * joint // 1_000 * 10"),
+    ("EI by a hundredth part of the sum", "ei_sum(panel, parts) // parts)", "ei_sum(panel, parts) // 100)"),
+    ("EI to the nearest minute", "ei_sum(panel, parts) // parts)", "(ei_sum(panel, parts) + parts // 2) // parts)"),
+    ("EI below a grade at its very minute", "ei_sum(panel, parts) // parts)", "(ei_sum(panel, parts) - 1) // parts)"),
+    ("EI a thousandth early", "ei_sum(panel, parts) // parts)", "(ei_sum(panel, parts) + 1) // parts)"),
+    ("0.6 of the sum rounded down by itself", "behind = (5 * t - 3 * before) // 5", "behind = t - 3 * before // 5"),
+    ("a layer rounded once", "        behind = (5 * t - 3 * before) // 5\n    else:\n        behind = largest(lambda n: 4 * n ** 2 * before <= t ** 3)\n"
+     "    return behind * joint // 100",
+     "        return (5 * t - 3 * before) * joint // 500\n    return largest(lambda n: 40_000 * n ** 2 * before <= joint ** 2 * t ** 3)"),
     ("same build by the fire's lamellae", "return a._replace(version=0, strength=0, moment=0) == b._replace(version=0, strength=0, moment=0)",
      "return a._replace(version=0, strength=0, moment=0, face=0, lamellae=from_fire(a)) == b._replace(version=0, strength=0, moment=0, face=0, lamellae=from_fire(b))"),
     ("turning swaps the first and the last lamella alone", "return panel.lamellae[::-1] if panel.face == LAST_FACE else panel.lamellae",

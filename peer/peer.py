@@ -1,7 +1,7 @@
 """The CLT fire card in exact arithmetic, written from documents 01 and 02 alone.
 
 A peer of the Rattle code: it shares no line with it, and the two are compared on the same records.
-Lengths are in tenths of mm, times in thousandths of a minute, layer times in hundredths, unless a name says otherwise.
+Lengths are in tenths of mm, times in thousandths of a minute, unless a name says otherwise.
 The parts stand in the order of the document's sections.
 """
 from fractions import Fraction
@@ -9,7 +9,7 @@ from functools import cache
 from math import ceil, floor
 from typing import NamedTuple
 
-LAST_REQUEST = 7  # of document 02
+LAST_REQUEST = 8  # of document 02
 
 # ---------------------------------------------------------------- The panel record
 
@@ -546,30 +546,33 @@ def largest(keeps):
     return found
 
 
+PARTS = 1_000  # of a minute, in which basic and layer times are kept
+
+
 @cache
-def basic_time(unit, reference, power, root, h):
-    """unit * (h / reference) ^ (power / root), rounded down."""
-    return largest(lambda v: v ** root * reference ** power <= unit ** root * h ** power)
+def basic_time(base, reference, power, root, h, parts):
+    """base * (h / reference) ^ (power / root) minutes in so many parts to the minute, rounded down."""
+    return largest(lambda v: v ** root * reference ** power <= (base * parts) ** root * h ** power)
 
 
-# the table: its unit, reference, power and root, and its first and last thickness
+# the table: its base in minutes, reference, power and root, and its first and last thickness
 TABLES = {
-    "gypsum_protection": (3_000, 150, 6, 5, 90, 250),
-    "gypsum_insulation": (2_400, 150, 7, 5, 90, 250),
-    "wood_protection": (3_000, 200, 11, 10, 100, 600),
-    "wood_insulation": (1_900, 200, 7, 5, 100, 600),
-    "osb_protection": (2_300, 200, 11, 10, 200, 400),
-    "osb_insulation": (1_600, 200, 7, 5, 200, 400),
-    "particle_board_protection": (3_300, 200, 11, 10, 200, 400),
-    "particle_board_insulation": (2_200, 200, 7, 5, 200, 400),
+    "gypsum_protection": (30, 150, 6, 5, 90, 250),
+    "gypsum_insulation": (24, 150, 7, 5, 90, 250),
+    "wood_protection": (30, 200, 11, 10, 100, 600),
+    "wood_insulation": (19, 200, 7, 5, 100, 600),
+    "osb_protection": (23, 200, 11, 10, 200, 400),
+    "osb_insulation": (16, 200, 7, 5, 200, 400),
+    "particle_board_protection": (33, 200, 11, 10, 200, 400),
+    "particle_board_insulation": (22, 200, 7, 5, 200, 400),
 }
 
 MATERIALS = {ord("A"): "gypsum", ord("F"): "gypsum", ord("H"): "gypsum", ord("O"): "osb", ord("P"): "particle_board"}
 LAMELLA = "wood"
 
 
-def entry(table, h):
-    return basic_time(*TABLES[table][:4], h)
+def entry(table, h, parts=PARTS):
+    return basic_time(*TABLES[table][:4], h, parts)
 
 
 def entries(table):
@@ -603,29 +606,29 @@ def layer_time(t, before, joint):
     return behind * joint // 100
 
 
-def basic_layers(panel):
+def basic_layers(panel, parts=PARTS):
     """(basic time, joint coefficient) of each layer, from the exposed side: protection, but for the last insulation."""
     thicknesses = [thickness for _, thickness in from_fire(panel)]
-    layers = [(entry(MATERIALS[board.kind] + "_protection", board.thickness), board.joint) for board in panel.boards]
-    layers += [(entry("wood_protection", thickness), 100) for thickness in thicknesses[:-1]]
-    return layers + [(entry("wood_insulation", thicknesses[-1]), 100)]
+    layers = [(entry(MATERIALS[board.kind] + "_protection", board.thickness, parts), board.joint) for board in panel.boards]
+    layers += [(entry("wood_protection", thickness, parts), 100) for thickness in thicknesses[:-1]]
+    return layers + [(entry("wood_insulation", thicknesses[-1], parts), 100)]
 
 
-def layer_times(panel):
+def layer_times(panel, parts=PARTS):
     """What each layer of an accepted panel gives, from the exposed side, in one fire."""
     times = []
-    for t, joint in basic_layers(panel):
+    for t, joint in basic_layers(panel, parts):
         times.append(layer_time(t, sum(times), joint))
     return times
 
 
-def ei_sum(panel):
+def ei_sum(panel, parts=PARTS):
     """The lesser of its fires."""
-    return min(sum(layer_times(fire)) for fire in fires(panel))
+    return min(sum(layer_times(fire, parts)) for fire in fires(panel))
 
 
-def ei_minute(panel):
-    return min(360, ei_sum(panel) // 100)
+def ei_minute(panel, parts=PARTS):
+    return min(360, ei_sum(panel, parts) // parts)
 
 
 GRADES = (10, 15, 20, 30, 45, 60, 90, 120, 180, 240, 360)

@@ -4,6 +4,7 @@ Half are within the limits of documents 01 and 02, with weight on the limits' en
 are damaged: cut short, made longer, one byte changed, a face byte too many or too few, or no record at all.
 """
 import random
+from functools import cache
 from math import gcd
 
 import peer
@@ -123,14 +124,36 @@ def at_a_limit(rng, panel):
     return panel._replace(lamellae=tuple((0, thickness) for _, thickness in panel.lamellae))
 
 
-def at_switch(rng, panel):
-    """The panel with its first or second lamella so thick that 2S comes nearest to its basic time t, or next to nearest."""
-    lamella = rng.randrange(min(2, len(panel.lamellae)))
-    before = sum(peer.layer_times(panel)[:len(panel.boards) + lamella])
-    table = "wood_insulation" if lamella == len(panel.lamellae) - 1 else "wood_protection"
-    nearest = sorted(range(100, 601), key=lambda thickness: abs(2 * before - peer.entry(table, thickness)))
-    changed = with_lamella(panel, lamella, panel.lamellae[lamella][0], nearest[rng.randrange(2)])
-    return changed._replace(moment=0)
+@cache
+def thickness_by_time(table):
+    """Of each basic time in a table the thickness, in tenths of mm."""
+    return {time: peer.TABLES[table][4] + i for i, time in enumerate(peer.entries(table))}
+
+
+def with_layer_at_switch(panel, layer, *pasts):
+    """The panel with a layer, counted from 0, so thick that 2S is past its basic time t by the first of these numbers that some thickness
+    gives; None where none of them is given."""
+    lamella = layer - len(panel.boards)
+    if lamella < 0:
+        table = peer.MATERIALS[panel.boards[layer].kind] + "_protection"
+    else:
+        table = "wood_insulation" if lamella == len(panel.lamellae) - 1 else "wood_protection"
+    before, thicknesses = sum(peer.layer_times(panel)[:layer]), thickness_by_time(table)
+    for thickness in (thicknesses.get(2 * before - past) for past in pasts):
+        if thickness is not None:
+            return (with_board(panel, layer, thickness=thickness) if lamella < 0 else
+                    with_lamella(panel, lamella, panel.lamellae[lamella][0], thickness))
+    return None
+
+
+def at_switch(rng):
+    """A panel without load that has a layer, but for the first, at the switch of the layer step or at most three parts of a minute from it."""
+    while True:
+        panel = random_panel(rng)._replace(moment=0)
+        for layer in range(1, min(4, len(panel.boards) + len(panel.lamellae))):
+            changed = with_layer_at_switch(panel, layer, *rng.sample(range(-3, 4), 7))
+            if changed is not None and peer.panel_refusal(changed) == 0:
+                return changed
 
 
 def thicknesses_to(rng, total):

@@ -1,4 +1,5 @@
--- Document 01, "Layer times", and document 02, 1/14: the basic times, in hundredths of a minute, rounded down; thicknesses in tenths of mm.
+-- Document 01, "Layer times", and document 02, 1/14 and 8/14: the basic times, in thousandths of a minute, rounded down; thicknesses in tenths
+-- of mm. The parts of a minute are a parameter of what follows, so that the same in other parts can be compared.
 use Rattle.std.specs.Prelude.{ℕ, ◌*◌, ◌^◌, Bool, leb}
 use Rattle.numbers.specs.Largest.{largest}
 use Rattle.panel.specs.declared.Material.{Material}
@@ -6,15 +7,18 @@ use Rattle.panel.specs.declared.Material.TheVariants.{Gypsum, Wood, Osb, Particl
 use Rattle.basic_times.specs.declared.Role.{Role}
 use Rattle.basic_times.specs.declared.Role.TheVariants.{Protection, Insulation}
 
--- basic and layer times are kept in hundredths of a minute
+-- "Basic times and layer times are kept in thousandths of a minute"
 abbrev pub parts_per_minute : ℕ
-parts_per_minute = 100
+parts_per_minute = 1000
 
--- no layer lasts longer
+-- no layer lasts longer, in so many parts to the minute
+abbrev pub longest_in : ℕ → ℕ
+longest_in parts = 150 * parts
+
 abbrev pub longest_time : ℕ
-longest_time = 150 * parts_per_minute
+longest_time = longest_in parts_per_minute
 
--- base·(h/reference)^(power/root): the base in parts of a minute, the reference in tenths of mm
+-- base·(h/reference)^(power/root): the base in minutes, the reference in tenths of mm
 pub record Rule : Type 0 where
   pub base : ℕ
   pub reference : ℕ
@@ -22,17 +26,16 @@ pub record Rule : Type 0 where
   pub root : ℕ
 
 abbrev pub rule : ℕ → ℕ → ℕ → ℕ → Rule
-rule minutes reference power root =
-    record { base = minutes * parts_per_minute; reference = reference; power = power; root = root }
+rule base reference power root = record { base = base; reference = reference; power = power; root = root }
 
--- v keeps to the rule at the thickness h, both sides raised to the root: "the largest whole number whose fifth or tenth power keeps to
+-- v parts keep to the rule at the thickness h, both sides raised to the root: "the largest whole number whose fifth or tenth power keeps to
 -- the rule"
-abbrev pub keeps : Rule → ℕ → ℕ → Bool
-keeps r h v = leb (v ^ r.root * r.reference ^ r.power) (r.base ^ r.root * h ^ r.power)
+abbrev pub keeps : ℕ → Rule → ℕ → ℕ → Bool
+keeps parts r h v = leb (v ^ r.root * r.reference ^ r.power) ((r.base * parts) ^ r.root * h ^ r.power)
 
 -- the largest whole number that keeps to the rule
-unfoldable pub largest_time : Rule → ℕ → ℕ
-largest_time r h = largest (keeps r h) longest_time
+unfoldable pub largest_time : ℕ → Rule → ℕ → ℕ
+largest_time parts r h = largest (keeps parts r h) (longest_in parts)
 
 -- the rules of the tables, one for each
 abbrev pub rule_of : Role → Material → Rule
@@ -48,6 +51,10 @@ rule_of Insulation Osb = rule 16 200 7 5
 rule_of Protection ParticleBoard = rule 33 200 11 10
 rule_of Insulation ParticleBoard = rule 22 200 7 5
 
--- the basic time of a layer, by what it is counted for and made of, at a thickness
+-- the basic time of a layer in so many parts to the minute, by what it is counted for and made of, at a thickness
+abbrev pub basic_time_in : ℕ → Role → Material → ℕ → ℕ
+basic_time_in parts role m h = largest_time parts (rule_of role m) h
+
+-- the basic time, in thousandths of a minute
 abbrev pub basic_time : Role → Material → ℕ → ℕ
-basic_time role m h = largest_time (rule_of role m) h
+basic_time = basic_time_in parts_per_minute

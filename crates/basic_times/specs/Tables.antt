@@ -1,24 +1,20 @@
 -- The tables of basic times as lists, in a form that antt computes, so that a constant of the code is held to its rule by computing it. It is
 -- not the meaning, which is `basic_time`; Entries in proofs/ says that each entry is that.
-use Rattle.std.specs.Prelude.{ℕ, zero, suc, ◌+◌, ◌-◌, ◌^◌, ◌≤◌, Bool, true, false, List, [], ◌∷◌, get_or}
+use Rattle.std.specs.Prelude.{ℕ, zero, suc, ◌+◌, ◌-◌, ◌≤◌, List, [], ◌∷◌, get_or}
+use Rattle.numbers.specs.ByBits.{by_bits}
 use Rattle.panel.specs.declared.Material.{Material}
 use Rattle.panel.specs.Materials.{thinnest, thickest}
 use Rattle.basic_times.specs.declared.Role.{Role}
-use Rattle.basic_times.specs.Rules.{Rule, keeps, rule_of}
+use Rattle.basic_times.specs.Rules.{parts_per_minute, Rule, keeps, rule_of}
 
 -- `longest_time` is below 2^18
 abbrev pub bits : ℕ
 bits = 18
 
--- v and as much more, below 2^k, as keeps a test that smaller numbers keep too: bit by bit, the greatest first
-abbrev pub by_bits : (ℕ → Bool) → ℕ → ℕ → ℕ
-by_bits test zero v = v
-by_bits test (suc k) v = by_bits test k (elim (test (v + 2 ^ k)) [ true ↦ v + 2 ^ k | false ↦ v ])
-
--- the times by a rule at n thicknesses from h on
+-- the times by a rule, in thousandths of a minute, at n thicknesses from h on
 abbrev pub times : Rule → ℕ → ℕ → List ℕ
 times r h zero = []
-times r h (suc n) = by_bits (keeps r h) bits 0 ∷ times r (suc h) n
+times r h (suc n) = by_bits (keeps parts_per_minute r h) bits 0 ∷ times r (suc h) n
 
 -- "one table entry for each tenth of mm allowed"
 abbrev pub table_of : Role → Material → List ℕ

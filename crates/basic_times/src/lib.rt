@@ -13,8 +13,8 @@ pub mod times;
 mod wood_insulation;
 mod wood_protection;
 
-// Basic and layer times are kept in hundredths of a minute.
-pub const PARTS_PER_MINUTE: u32 = 100;
+// Basic and layer times are kept in thousandths of a minute.
+pub const PARTS_PER_MINUTE: u32 = 1_000;
 
 // What a layer is counted for: all layers but the last protect, the last insulates.
 #[derive(Clone, Copy)]

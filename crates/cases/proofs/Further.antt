@@ -14,8 +14,8 @@ use Rattle.charring.specs.Depths.{char_at, effective_at}
 use Rattle.phases.specs.Phases.{phase_on, phase_at}
 use Rattle.load.specs.LoadMinute.{every_from, time_test}
 use Rattle.load.specs.FailureTests.{fails_right_after}
-use Rattle.basic_times.specs.Rules.{largest_time}
-use Rattle.layers.specs.Layers.{time_of, joint_of, positioned, with_layer, sum_after, ei_sum}
+use Rattle.layers.specs.Layers.{joint_of}
+use Rattle.cases.proofs.SumsByBits.{sum_after_by_bits}
 use Rattle.numbers.specs.Least.{least}
 use Rattle.grades.specs.Grades.{greatest_to}
 use Rattle.load.specs.Lasting.{lasts}
@@ -26,27 +26,27 @@ use Rattle.cases.specs.Further.{charring_rows, wood_board_rows, fire_rows, first
 use Rattle.cases.proofs.Tested.{phase_number, agree, all_tested, both}
 
 charring_rows_hold : EveryRowHolds charring_rows
-unfolding charring_rows agree phase_number largest lamellae_of thickness counted_from total lowest highest section_of carries some material_of lamellae_in panel_of record_refusal panel_refusal failure_of k2 clad lines_from bond_lines line_end intact_end passed_end first_end stretches way charred char_at effective_at phase_on phase_at every_from time_test fails_right_after largest_time time_of joint_of positioned with_layer sum_after ei_sum
+unfolding charring_rows agree phase_number largest lamellae_of thickness counted_from total lowest highest section_of carries some material_of lamellae_in panel_of record_refusal panel_refusal failure_of k2 clad lines_from bond_lines line_end intact_end passed_end first_end stretches way charred char_at effective_at phase_on phase_at every_from time_test fails_right_after joint_of sum_after_by_bits
 charring_rows_hold = all_tested charring_rows tt
 
 wood_board_rows_hold : EveryRowHolds wood_board_rows
-unfolding wood_board_rows agree phase_number largest lamellae_of thickness counted_from total lowest highest section_of carries some material_of lamellae_in panel_of record_refusal panel_refusal failure_of k2 clad lines_from bond_lines line_end intact_end passed_end first_end stretches way charred char_at effective_at phase_on phase_at every_from time_test fails_right_after largest_time time_of joint_of positioned with_layer sum_after ei_sum
+unfolding wood_board_rows agree phase_number largest lamellae_of thickness counted_from total lowest highest section_of carries some material_of lamellae_in panel_of record_refusal panel_refusal failure_of k2 clad lines_from bond_lines line_end intact_end passed_end first_end stretches way charred char_at effective_at phase_on phase_at every_from time_test fails_right_after joint_of sum_after_by_bits
 wood_board_rows_hold = all_tested wood_board_rows tt
 
 fire_rows_hold : EveryRowHolds fire_rows
-unfolding fire_rows agree phase_number largest lamellae_of thickness counted_from total lowest highest section_of carries some material_of lamellae_in panel_of record_refusal panel_refusal failure_of k2 clad lines_from bond_lines line_end intact_end passed_end first_end stretches way charred char_at effective_at phase_on phase_at every_from time_test fails_right_after largest_time time_of joint_of positioned with_layer sum_after ei_sum
+unfolding fire_rows agree phase_number largest lamellae_of thickness counted_from total lowest highest section_of carries some material_of lamellae_in panel_of record_refusal panel_refusal failure_of k2 clad lines_from bond_lines line_end intact_end passed_end first_end stretches way charred char_at effective_at phase_on phase_at every_from time_test fails_right_after joint_of sum_after_by_bits
 fire_rows_hold = all_tested fire_rows tt
 
 first_run_rows_hold : EveryRowHolds first_run_rows
-unfolding first_run_rows agree phase_number largest lamellae_of thickness counted_from total lowest highest section_of carries some material_of lamellae_in panel_of record_refusal panel_refusal failure_of k2 clad lines_from bond_lines line_end intact_end passed_end first_end stretches way charred char_at effective_at phase_on phase_at every_from time_test fails_right_after largest_time time_of joint_of positioned with_layer sum_after ei_sum
+unfolding first_run_rows agree phase_number largest lamellae_of thickness counted_from total lowest highest section_of carries some material_of lamellae_in panel_of record_refusal panel_refusal failure_of k2 clad lines_from bond_lines line_end intact_end passed_end first_end stretches way charred char_at effective_at phase_on phase_at every_from time_test fails_right_after joint_of sum_after_by_bits
 first_run_rows_hold = all_tested first_run_rows tt
 
 rating_rows_hold : EveryRowHolds rating_rows
-unfolding rating_rows agree least greatest_to lasts thickness_at thinned first_by none_below phase_number largest lamellae_of thickness counted_from total lowest highest section_of carries some material_of lamellae_in panel_of record_refusal panel_refusal failure_of k2 clad lines_from bond_lines line_end intact_end passed_end first_end stretches way charred char_at effective_at phase_on phase_at every_from time_test fails_right_after largest_time time_of joint_of positioned with_layer sum_after ei_sum
+unfolding rating_rows agree least greatest_to lasts thickness_at thinned first_by none_below phase_number largest lamellae_of thickness counted_from total lowest highest section_of carries some material_of lamellae_in panel_of record_refusal panel_refusal failure_of k2 clad lines_from bond_lines line_end intact_end passed_end first_end stretches way charred char_at effective_at phase_on phase_at every_from time_test fails_right_after joint_of sum_after_by_bits
 rating_rows_hold = all_tested rating_rows tt
 
 cut_rows_hold : EveryRowHolds cut_rows
-unfolding cut_rows agree least greatest_to lasts thickness_at thinned first_by none_below phase_number largest lamellae_of thickness counted_from total lowest highest section_of carries some material_of lamellae_in panel_of record_refusal panel_refusal failure_of k2 clad lines_from bond_lines line_end intact_end passed_end first_end stretches way charred char_at effective_at phase_on phase_at every_from time_test fails_right_after largest_time time_of joint_of positioned with_layer sum_after ei_sum
+unfolding cut_rows agree least greatest_to lasts thickness_at thinned first_by none_below phase_number largest lamellae_of thickness counted_from total lowest highest section_of carries some material_of lamellae_in panel_of record_refusal panel_refusal failure_of k2 clad lines_from bond_lines line_end intact_end passed_end first_end stretches way charred char_at effective_at phase_on phase_at every_from time_test fails_right_after joint_of sum_after_by_bits
 cut_rows_hold = all_tested cut_rows tt
 
 pub further_hold : EveryRowHolds further

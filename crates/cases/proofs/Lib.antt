@@ -1,3 +1,4 @@
+pub mod SumsByBits
 pub mod Planed
 pub mod Tested
 pub mod Claim

@@ -1,7 +1,7 @@
 -- The search for the least cut, by a test that computes: neither R nor EI's grade of a cut panel is worked out, and so many minutes are
 -- asked of it in their place. Of an accepted panel it is the search that is promised. Assumes nothing.
 use Prim.Native.Nat.{ℕ, zero, suc, ◌<◌}
-use mathlib.Core.Path.{◌≡◌, refl, ap, ◌∙◌}
+use mathlib.Core.Path.{◌≡◌, refl, sym, ap, ◌∙◌}
 use mathlib.Core.Bool.{Bool, true, false, not, ◌&&◌, ◌||◌}
 use native.Mathlib.Omega.{arith}
 use native.Mathlib.Decide.{dec_lt}
@@ -19,12 +19,13 @@ use Rattle.ratings.specs.Answers.{rei_grade}
 use Rattle.planing.specs.declared.Cut.{Cut}
 use Rattle.planing.specs.Cuts.{cut_panel, allowed, lowers, lowered}
 use Rattle.planing.specs.Answers.{place_on, cut_behind, lowering, first_behind, most_cut, least_tenths, planing_if, planing_of}
+use Rattle.cases.proofs.SumsByBits.{ei_by_bits, ei_by_bits_lem}
 use Rattle.planing.proofs.CutPanels.{cut_before_section}
 use Rattle.planing.proofs.Lowering.{rei_is_grade, fails_lowered, lasting_by_ei}
 
--- a panel has less than so many minutes
+-- a panel has less than so many minutes, by an EI that computes
 abbrev pub less_than : ℕ → Panel → Bool
-less_than minutes q = not (lasts q minutes) || ltb (printed_ei q) minutes
+less_than minutes q = not (lasts q minutes) || ltb (ei_by_bits q) minutes
 
 abbrev pub lowering_by : ℕ → Panel → Cut → Bool
 lowering_by minutes p c = allowed p c && less_than minutes (cut_panel p c)
@@ -41,7 +42,9 @@ planing_by minutes p =
     planing_if (ltb (tenths_by minutes p) (suc most_cut)) (cut_behind p (tenths_by minutes p) (first_by minutes p (tenths_by minutes p)))
 
 lowered_by : (p q : Panel) → refusal_before_section q ≡ 0 → lowered (rei_grade p).minutes q ≡ less_than (rei_grade p).minutes q
-lowered_by p q above = go (lasts q (rei_grade p).minutes) refl
+lowered_by p q above =
+    go (lasts q (rei_grade p).minutes) refl
+    ∙ ap (λ (n : ℕ). not (lasts q (rei_grade p).minutes) || ltb n (rei_grade p).minutes) (sym (ei_by_bits_lem q above))
   where
     go : (b : Bool) → lasts q (rei_grade p).minutes ≡ b → lowered (rei_grade p).minutes q ≡ (not b || ltb (printed_ei q) (rei_grade p).minutes)
     go true e = lasting_by_ei (rei_grade p).minutes q (rei_is_grade p).0 (rei_is_grade p).1 above e

@@ -14,6 +14,7 @@ use Rattle.panel.specs.declared.Panel.{Panel}
 use Rattle.numbers.proofs.LargestKept.{largest_greatest}
 use Rattle.panel.specs.Faces.{fires, least_of}
 use Rattle.refusals.specs.Refusals.{panel_refusal}
+use Rattle.refusals.proofs.PanelTable.{accepted_before_section}
 use Rattle.load.specs.LoadMinute.{time_test, whole_part, load_minute, load_seconds, minutes_in, seconds_over}
 use Rattle.load.specs.FailureTests.{fails_right_after}
 use Rattle.load.proofs.LoadMinutes.{whole_found}
@@ -21,9 +22,14 @@ use Rattle.load.proofs.ExactFailure.{exact_failure}
 use Rattle.phases.specs.declared.Phase.{Phase}
 use Rattle.phases.specs.declared.Phase.TheVariants.{Untouched, UnderCladding, Fast, Settled}
 use Rattle.phases.specs.Phases.{phase_at}
-use Rattle.layers.specs.Layers.{printed_ei}
+use Rattle.panel.specs.declared.Material.{Material}
+use Rattle.panel.specs.Materials.{thickest}
+use Rattle.basic_times.specs.declared.Role.{Role}
+use Rattle.basic_times.proofs.Entries.{basic_by_bits}
+use Rattle.layers.specs.Layers.{ei_sum, printed_ei}
+use Rattle.cases.proofs.SumsByBits.{time_by_bits, sum_by_bits, sum_by_bits_lem, ei_by_bits, ei_by_bits_lem}
 use Rattle.grades.specs.Grades.{rei_of}
-use Rattle.cases.specs.Cases.{Case, gives, bears, bears_for, failure_time, in_phase, rated, planed, Rated, Holds, EveryRowHolds}
+use Rattle.cases.specs.Cases.{Case, gives, bears, bears_for, failure_time, in_phase, basic, adds_up, separates, rated, planed, Rated, Holds, EveryRowHolds}
 use Rattle.cases.proofs.Planed.{planing_by, planing_by_grade, answer_test, answer_found}
 
 -- phases are told apart by a number each
@@ -69,7 +75,7 @@ abbrev pub bears_test : Panel → ℕ → Bool
 bears_test p m = eqb (panel_refusal p) 0 && last_in_one 1 (fires p) m
 
 abbrev pub rated_test : Panel → ℕ → ℕ → ℕ → Bool
-rated_test p r ei grade = bears_test p r && (eqb (printed_ei p) ei && eqb (rei_of r ei).minutes grade)
+rated_test p r ei grade = bears_test p r && (eqb (ei_by_bits p) ei && eqb (rei_of r ei).minutes grade)
 
 -- a failure time is tested by the depth reached then
 abbrev pub test : Case → Bool
@@ -78,6 +84,9 @@ test (bears p m) = bears_test p m
 test (bears_for p minutes seconds) = eqb (panel_refusal p) 0 && (ltb seconds 60 && last_in_one 60 (fires p) (60 * minutes + seconds))
 test (failure_time p n q) = fails_right_after p n q
 test (in_phase p n q f) = eqb (phase_number (phase_at p n q)) (phase_number f)
+test (basic role m h t) = leb h (thickest m) && eqb (time_by_bits role m h) t
+test (adds_up p n) = eqb (panel_refusal p) 0 && eqb (sum_by_bits p) n
+test (separates p minute) = eqb (panel_refusal p) 0 && eqb (ei_by_bits p) minute
 test (rated p r ei grade) = rated_test p r ei grade
 test (planed p r ei grade answer) = rated_test p r ei grade && answer_test grade p answer
 
@@ -161,12 +170,24 @@ bears_for_tested p minutes seconds t =
       (ap minutes_in e ∙ omega arith, ap seconds_over e ∙ omega arith),
     )
 
+basic_tested : (role : Role) (m : Material) (h t : ℕ) → T (test (basic role m h t)) → Holds (basic role m h t)
+basic_tested role m h t k =
+    let within = leb→le h (thickest m) (IsTrue-left (leb h (thickest m)) (eqb (time_by_bits role m h) t) k) in
+    sym (basic_by_bits role m h within) ∙ eqb→eq (time_by_bits role m h) t (IsTrue-right (leb h (thickest m)) (eqb (time_by_bits role m h) t) k)
+
+-- an accepted panel of which something found bit by bit is n
+accepted_tested : (p : Panel) (f g : Panel → ℕ) (n : ℕ) → (panel_refusal p ≡ 0 → g p ≡ f p) → T (eqb (panel_refusal p) 0 && eqb (g p) n)
+    → (panel_refusal p ≡ 0) × (f p ≡ n)
+accepted_tested p f g n same t =
+    let e = eqb→eq (panel_refusal p) 0 (IsTrue-left (eqb (panel_refusal p) 0) (eqb (g p) n) t) in
+    (e, sym (same e) ∙ eqb→eq (g p) n (IsTrue-right (eqb (panel_refusal p) 0) (eqb (g p) n) t))
+
 rated_tested : (p : Panel) (r ei grade : ℕ) → T (rated_test p r ei grade) → Rated p r ei grade
 rated_tested p r ei grade t =
-    let load = bears_tested p r (IsTrue-left (bears_test p r) (eqb (printed_ei p) ei && eqb (rei_of r ei).minutes grade) t) in
-    let more = IsTrue-right (bears_test p r) (eqb (printed_ei p) ei && eqb (rei_of r ei).minutes grade) t in
-    let e = eqb→eq (printed_ei p) ei (IsTrue-left (eqb (printed_ei p) ei) (eqb (rei_of r ei).minutes grade) more) in
-    let g = eqb→eq (rei_of r ei).minutes grade (IsTrue-right (eqb (printed_ei p) ei) (eqb (rei_of r ei).minutes grade) more) in
+    let load = bears_tested p r (IsTrue-left (bears_test p r) (eqb (ei_by_bits p) ei && eqb (rei_of r ei).minutes grade) t) in
+    let more = IsTrue-right (bears_test p r) (eqb (ei_by_bits p) ei && eqb (rei_of r ei).minutes grade) t in
+    let e = sym (ei_by_bits_lem p (accepted_before_section p load.0)) ∙ eqb→eq (ei_by_bits p) ei (IsTrue-left (eqb (ei_by_bits p) ei) (eqb (rei_of r ei).minutes grade) more) in
+    let g = eqb→eq (rei_of r ei).minutes grade (IsTrue-right (eqb (ei_by_bits p) ei) (eqb (rei_of r ei).minutes grade) more) in
     (load.0, (load.1, (e, ap₂ (λ (a b : ℕ). (rei_of a b).minutes) load.1 e ∙ g)))
 
 planed_tested : (p : Panel) (r ei grade : ℕ) (answer : Option Cut) → T (test (planed p r ei grade answer)) → Holds (planed p r ei grade answer)
@@ -181,6 +202,9 @@ tested (bears p m) t = bears_tested p m t
 tested (bears_for p minutes seconds) t = bears_for_tested p minutes seconds t
 tested (failure_time p n q) t = exact_failure p n q t
 tested (in_phase p n q f) t = same_number (phase_at p n q) f (eqb→eq (phase_number (phase_at p n q)) (phase_number f) t)
+tested (basic role m h t) k = basic_tested role m h t k
+tested (adds_up p n) t = accepted_tested p ei_sum sum_by_bits n (sum_by_bits_lem p) t
+tested (separates p minute) t = accepted_tested p printed_ei ei_by_bits minute (λ e. ei_by_bits_lem p (accepted_before_section p e)) t
 tested (rated p r ei grade) t = rated_tested p r ei grade t
 tested (planed p r ei grade answer) t = planed_tested p r ei grade answer t
 

@@ -6,7 +6,10 @@ use Rattle.phases.specs.declared.Phase.{Phase}
 use Rattle.phases.specs.Phases.{phase_at}
 use Rattle.load.specs.Failure.{TimePasses, IsFailureTime}
 use Rattle.load.specs.LoadMinute.{printed_load, printed_load_seconds, minutes_in, seconds_over}
-use Rattle.layers.specs.Layers.{printed_ei}
+use Rattle.panel.specs.declared.Material.{Material}
+use Rattle.basic_times.specs.declared.Role.{Role}
+use Rattle.basic_times.specs.Rules.{basic_time}
+use Rattle.layers.specs.Layers.{ei_sum, printed_ei}
 use Rattle.ratings.specs.Answers.{rei_grade}
 use Rattle.planing.specs.declared.Cut.{Cut}
 use Rattle.planing.specs.Answers.{planing_of}
@@ -22,6 +25,12 @@ pub data Case : Type 0 where
   failure_time : Panel → ℕ → ℕ → Case
   -- in such a fire the panel is in a phase at n/q minutes
   in_phase : Panel → ℕ → ℕ → Phase → Case
+  -- the basic time of a layer at a thickness is so many thousandths of a minute
+  basic : Role → Material → ℕ → ℕ → Case
+  -- a panel is accepted, and in the fire on its first face its layer times add up to so many thousandths of a minute
+  adds_up : Panel → ℕ → Case
+  -- a panel is accepted, and the EI that is printed for it is so many minutes
+  separates : Panel → ℕ → Case
   -- a panel is accepted, the minutes R and EI that are printed for it are these, and its REI grade is that
   rated : Panel → ℕ → ℕ → ℕ → Case
   -- the same, and this is the least cut that lowers the REI grade, or none does
@@ -38,6 +47,9 @@ Holds (bears_for p minutes seconds) =
     (panel_refusal p ≡ 0) × ((minutes_in (printed_load_seconds p) ≡ minutes) × (seconds_over (printed_load_seconds p) ≡ seconds))
 Holds (failure_time p n q) = IsFailureTime (TimePasses p) n q
 Holds (in_phase p n q f) = phase_at p n q ≡ f
+Holds (basic role m h t) = basic_time role m h ≡ t
+Holds (adds_up p n) = (panel_refusal p ≡ 0) × (ei_sum p ≡ n)
+Holds (separates p minute) = (panel_refusal p ≡ 0) × (printed_ei p ≡ minute)
 Holds (rated p r ei grade) = Rated p r ei grade
 Holds (planed p r ei grade answer) = Rated p r ei grade × (planing_of p ≡ answer)
 

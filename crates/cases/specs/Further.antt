@@ -16,10 +16,8 @@ use Rattle.record.specs.Layouts.{panel_of}
 use Rattle.record.specs.Refusals.{record_refusal}
 use Rattle.charring.specs.Depths.{char_at, micrometres_at}
 use Rattle.basic_times.specs.declared.Role.TheVariants.{Protection, Insulation}
-use Rattle.basic_times.specs.Rules.{basic_time}
-use Rattle.layers.specs.Layers.{ei_sum, printed_ei}
 use Rattle.planing.specs.declared.Cut.{Cut}
-use Rattle.cases.specs.Cases.{Case, gives, bears, bears_for, failure_time, in_phase, rated, planed, hundredths, hundred_thousandths}
+use Rattle.cases.specs.Cases.{Case, gives, bears, bears_for, failure_time, in_phase, basic, adds_up, separates, rated, planed, hundredths, hundred_thousandths}
 
 -- Panels
 
@@ -103,6 +101,10 @@ uneven face = bare face 65 0 (lamella 1 400 ∷ lamella 1 100 ∷ [])
 abbrev pub thinning : ℕ → Panel
 thinning face = bare face 50 0 (lamella 1 201 ∷ lamella 1 100 ∷ lamella 1 100 ∷ [])
 
+-- 10 mm along, some across, some along, β 50, no moment
+abbrev pub about_an_hour : ℕ → ℕ → Panel
+about_an_hour across last = bare 0 50 0 (lamella 1 100 ∷ lamella 0 across ∷ lamella 1 last ∷ [])
+
 -- two of 10.1 mm along, β 65: with a tenth off either they carry no more than M 1,858
 abbrev pub twins : ℕ → Panel
 twins face = bare face 65 1859 (lamella 1 101 ∷ lamella 1 101 ∷ [])
@@ -174,14 +176,14 @@ charring_rows =
 unfoldable pub wood_board_rows : List Case
 wood_board_rows =
     -- wood-based boards at 20.0 mm have the bases of their rules, at 40.0 mm 2^1.1 and 2^1.4 times as much
-    gives (basic_time Protection Osb 200) 2300
-    ∷ gives (basic_time Insulation Osb 200) 1600
-    ∷ gives (basic_time Protection ParticleBoard 200) 3300
-    ∷ gives (basic_time Insulation ParticleBoard 200) 2200
-    ∷ gives (basic_time Protection Osb 400) 4930
-    ∷ gives (basic_time Insulation Osb 400) 4222
-    ∷ gives (basic_time Protection ParticleBoard 400) 7073
-    ∷ gives (basic_time Insulation ParticleBoard 400) 5805
+    basic Protection Osb 200 23000
+    ∷ basic Insulation Osb 200 16000
+    ∷ basic Protection ParticleBoard 200 33000
+    ∷ basic Insulation ParticleBoard 200 22000
+    ∷ basic Protection Osb 400 49301
+    ∷ basic Insulation Osb 400 42224
+    ∷ basic Protection ParticleBoard 400 70737
+    ∷ basic Insulation ParticleBoard 400 58058
     -- they are accepted alone, from 20.0 to 40.0 mm and with no time given
     ∷ gives (panel_refusal (one 0 0 (One (board_of letter_o 199)))) 8
     ∷ gives (panel_refusal (one 0 0 (One (board_of letter_o 200)))) 0
@@ -201,13 +203,13 @@ wood_board_rows =
     ∷ bears (panel_of behind_o) 106
     ∷ failure_time (panel_of behind_o) 693443 6500
     ∷ bears_for (panel_of behind_o) 106 41
-    ∷ gives (ei_sum (panel_of behind_o)) 10068
+    ∷ adds_up (panel_of behind_o) 100697
     -- P 40.0: t_ch = t_f = 44.444 min, k0 full then; 25 mm at 63.675 min; fails at 67.4 mm of char
     ∷ gives (record_refusal behind_p) 0
     ∷ gives (charring_start 0 (panel_of behind_p).cladding) 44444
     ∷ bears (panel_of behind_p) 128
     ∷ failure_time (panel_of behind_p) 418943 3250
-    ∷ gives (ei_sum (panel_of behind_p)) 12596
+    ∷ adds_up (panel_of behind_p) 125984
     ∷ []
 
 unfoldable pub fire_rows : List Case
@@ -231,11 +233,11 @@ fire_rows =
     -- from each alone: R is that of the last face, EI that of the first, and what is shown is that of the first
     ∷ bears (panel_of (wall 2)) 44
     ∷ bears_for (panel_of (wall 2)) 44 18
-    ∷ gives (ei_sum (panel_of (wall 2))) 8233
-    ∷ gives (ei_sum (turned (panel_of (wall 2)))) 8881
-    ∷ gives (printed_ei (panel_of (wall 0))) 82
-    ∷ gives (printed_ei (panel_of (wall 1))) 88
-    ∷ gives (printed_ei (panel_of (wall 2))) 82
+    ∷ adds_up (panel_of (wall 2)) 82340
+    ∷ adds_up (turned (panel_of (wall 2))) 88817
+    ∷ separates (panel_of (wall 0)) 82
+    ∷ separates (panel_of (wall 1)) 88
+    ∷ separates (panel_of (wall 2)) 82
     ∷ gives (micrometres_at (shown (panel_of (wall 1))) 50 1) 32500
     ∷ gives (micrometres_at (shown (panel_of (wall 2))) 50 1) 45000
     -- G, M 3,000: 6,740/65 min are 103 min and 41.5 s
@@ -283,6 +285,11 @@ rating_rows =
     rated (uneven 0) 61 65 60
     ∷ rated (uneven 1) 61 55 45
     ∷ rated (uneven 2) 61 55 45
+    -- layers that give a thousandth of a minute less than 60 minutes, and 60
+    ∷ adds_up (about_an_hour 129 400) 59999
+    ∷ rated (about_an_hour 129 400) 105 59 45
+    ∷ adds_up (about_an_hour 316 186) 60000
+    ∷ rated (about_an_hour 316 186) 100 60 60
     ∷ []
 
 unfoldable pub cut_rows : List Case

@@ -8,9 +8,7 @@ use Rattle.refusals.specs.Refusals.{panel_refusal}
 use Rattle.charring.specs.Depths.{char_at}
 use Rattle.panel.specs.declared.Material.TheVariants.{Gypsum, Wood}
 use Rattle.basic_times.specs.declared.Role.TheVariants.{Protection, Insulation}
-use Rattle.basic_times.specs.Rules.{basic_time}
-use Rattle.layers.specs.Layers.{ei_sum}
-use Rattle.cases.specs.Cases.{Case, gives, bears, failure_time, passing, hundredths}
+use Rattle.cases.specs.Cases.{Case, gives, bears, failure_time, basic, adds_up, passing, hundredths}
 
 unfoldable pub starred : List Case
 starred =
@@ -36,15 +34,16 @@ starred =
     -- "10 along, 60 across, 60 along, f 240, M 15,000: depth 7.0 mm does not pass, 7.1 does."
     ∷ gives (passing (depth_passes recovers 70)) 0
     ∷ gives (passing (depth_passes recovers 71)) 1
-    -- "Gypsum 15.0: 3000, 2400; wood 20.0: 3000, 1900; wood 40.0: 6430, 5014."
-    ∷ gives (basic_time Protection Gypsum 150) 3000
-    ∷ gives (basic_time Insulation Gypsum 150) 2400
-    ∷ gives (basic_time Protection Wood 200) 3000
-    ∷ gives (basic_time Insulation Wood 200) 1900
-    ∷ gives (basic_time Protection Wood 400) 6430
-    ∷ gives (basic_time Insulation Wood 400) 5014
-    -- "G: EI sum 9506."
-    ∷ gives (ei_sum (g 3000)) 9506
-    -- "Type A 12.5, coefficient 100, three lamellae 20: 5933."
-    ∷ gives (ei_sum three_behind_a) 5933
+    -- "Gypsum 15.0: ..; wood 20.0: ..; wood 40.0: ..", in thousandths: document 02, 8/14, "gypsum 15.0 becomes 30000 and 24000, and the
+    -- starred times and sums are worked again"
+    ∷ basic Protection Gypsum 150 30000
+    ∷ basic Insulation Gypsum 150 24000
+    ∷ basic Protection Wood 200 30000
+    ∷ basic Insulation Wood 200 19000
+    ∷ basic Protection Wood 400 64306
+    ∷ basic Insulation Wood 400 50141
+    -- "G: EI sum ..", as well
+    ∷ adds_up (g 3000) 95079
+    -- "Type A 12.5, coefficient 100, three lamellae 20: ..", as well
+    ∷ adds_up three_behind_a 59345
     ∷ []

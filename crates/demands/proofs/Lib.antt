@@ -3,4 +3,5 @@ pub mod ReadBack
 pub mod LoadMinute
 pub mod Seconds
 pub mod Ratings
+pub mod FinerTimes
 pub mod Planing

@@ -1,14 +1,12 @@
 -- Demand 3 holds, of what is printed and of the calls. Assumes nothing.
 use Prim.Native.Nat.{ℕ, ◌<◌}
-use mathlib.Core.Path.{◌≡◌, refl, sym, subst, ◌∙◌}
+use mathlib.Core.Path.{◌≡◌, refl, sym, subst}
 use mathlib.Core.List.{List}
 use mathlib.Core.Logic.{inl, inr, ⊎_elim}
 use native.Mathlib.Nat.{eq-or-lt_of_le}
 use Rattle.panel.specs.declared.Panel.{Panel}
-use Rattle.panel.specs.Faces.{turned}
-use Rattle.panel.proofs.Turning.{every_holds}
 use Rattle.refusals.specs.Refusals.{panel_refusal}
-use Rattle.refusals.proofs.Turned.{refusal_turned}
+use Rattle.refusals.proofs.Turned.{in_every_fire}
 use Rattle.load.specs.Failure.{TimePasses, EveryFirePasses, PassesUpTo}
 use Rattle.load.specs.LoadMinute.{load_minute, printed_load}
 use Rattle.load.proofs.WholeParts.{whole_exactly}
@@ -38,7 +36,7 @@ of_fire p e = record { load = of_close (TimePasses p) (load_minute p) (load_clos
 of_panel : (p : Panel) → panel_refusal p ≡ 0 → Demanded p (printed_load p)
 of_panel p e =
     record {
-      each_fire = every_holds OfFire p.face p (of_fire p e) (of_fire (turned p) (refusal_turned p ∙ e));
+      each_fire = in_every_fire OfFire of_fire p e;
       of_printed = of_close (EveryFirePasses p) (printed_load p) (printed_close p e);
       lesser = refl;
     }

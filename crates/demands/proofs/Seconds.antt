@@ -5,10 +5,8 @@ use mathlib.Core.Logic.{inl, inr, ⊎_elim, ◌↔◌}
 use native.Mathlib.Omega.{arith}
 use native.Mathlib.Nat.{eq-or-lt_of_le}
 use Rattle.panel.specs.declared.Panel.{Panel}
-use Rattle.panel.specs.Faces.{turned}
-use Rattle.panel.proofs.Turning.{every_holds}
 use Rattle.refusals.specs.Refusals.{panel_refusal}
-use Rattle.refusals.proofs.Turned.{refusal_turned}
+use Rattle.refusals.proofs.Turned.{in_every_fire}
 use Rattle.load.specs.Failure.{TimePasses, EveryFirePasses, PassesUpTo, NotAboveFailure, AboveFailure}
 use Rattle.load.specs.LoadMinute.{load_seconds, printed_load_seconds, minutes_in, seconds_over}
 use Rattle.load.proofs.WholeParts.{whole_exactly}
@@ -46,8 +44,7 @@ of_panel p e =
     let seconds = printed_load_seconds p in
     record {
       each_fire =
-          every_holds (λ fire. OfTime (TimePasses fire) (minutes_in (load_seconds fire)) (seconds_over (load_seconds fire))) p.face p (of_fire p e)
-          (of_fire (turned p) (refusal_turned p ∙ e));
+          in_every_fire (λ fire. OfTime (TimePasses fire) (minutes_in (load_seconds fire)) (seconds_over (load_seconds fire))) of_fire p e;
       of_printed =
           subst (λ (m : ℕ). OfTime (EveryFirePasses p) m (seconds_on_card (text_of_card p))) (sym (minutes_read p))
           (subst (OfTime (EveryFirePasses p) (minutes_in seconds)) (sym (seconds_read p)) (of_close (EveryFirePasses p) seconds (printed_seconds_close p e)));

@@ -2,4 +2,5 @@ pub mod EveryCard
 pub mod Demand3
 pub mod Seconds
 pub mod Ratings
+pub mod FinerTimes
 pub mod Planing

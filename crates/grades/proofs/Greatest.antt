@@ -91,3 +91,7 @@ grade_below grade k e = go (dec_le grade k)
     go (no h) =
         let within = greatest_within k grades in
         lt-ltb (grade_of k).minutes grade (omega arith) ∙ sym (lt-ltb k grade (omega arith))
+
+-- a greater minute has no lower grade
+pub grade_rises : (m k : ℕ) → m ≤ k → (grade_of m).minutes ≤ (grade_of k).minutes
+grade_rises m k h = greatest_reached m k grades (le_trans (greatest_within m grades) h)

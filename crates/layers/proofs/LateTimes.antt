@@ -7,7 +7,7 @@ use native.Mathlib.Nat.{le_trans, mul-le-mul, mul-le-mul_left, mul-le-mul_right}
 use borrow.Author.Tests.{leb-true, le-leb, lt-leb}
 use Rattle.numbers.specs.Largest.{IsLargest}
 use Rattle.numbers.proofs.Booleans.{not_both}
-use Rattle.numbers.proofs.LargestKept.{largest_found}
+use Rattle.numbers.proofs.LargestKept.{largest_found, largest_within}
 use Rattle.layers.specs.Layers.{late_keeps, positioned}
 
 -- smaller numbers keep the test too
@@ -37,6 +37,11 @@ early_whole s t h = omega arith
 pub early_floor : (s t : ℕ) → 2 * s ≤ t → (5 * positioned s t + 3 * s ≤ 5 * t) × (5 * t < 5 * (positioned s t + 1) + 3 * s)
 unfolding positioned
 early_floor s t h = rw (positioned, le-leb (2 * s) t h) (omega arith)
+
+-- the late layer time is at most t
+pub late_within : (s t : ℕ) → t < 2 * s → positioned s t ≤ t
+unfolding positioned
+late_within s t late = rw (positioned, lt-leb (2 * s) t late) (largest_within (late_keeps s t) t)
 
 -- the late layer time is the largest of all numbers with 4·n²·S ≤ t³, and not only of those up to t
 pub late_largest : (s t : ℕ) → t < 2 * s → IsLargest (late_keeps s t) (positioned s t)

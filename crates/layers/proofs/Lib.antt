@@ -1,4 +1,5 @@
 pub mod LateTimes
 pub mod Runs
+pub mod LayersKeep
 pub mod EachFire
 pub mod Unused

@@ -12,7 +12,8 @@ use Rattle.panel.specs.Lamellae.{lamella, lamellae_of}
 use Rattle.basic_times.specs.declared.Role.{Role}
 use Rattle.basic_times.specs.declared.Role.TheVariants.{Protection, Insulation}
 use Rattle.layers.specs.Kept.{SameUpTo}
-use Rattle.layers.specs.Layers.{Layer, lamella_layer, with_layer, protected_after, sum_after}
+use Rattle.basic_times.specs.Rules.{parts_per_minute}
+use Rattle.layers.specs.Layers.{Layer, lamella_layer, with_layer, with_layer_in, protected_after, sum_after_in}
 
 protected_append : (s : ℕ) (xs ys : List Layer) → protected_after s (xs ++ ys) ≡ protected_after (protected_after s xs) ys
 unfolding protected_after
@@ -20,8 +21,8 @@ protected_append s [] ys = refl
 protected_append s (x ∷ xs) ys = protected_append (with_layer Protection s x) xs ys
 
 -- all layers but the last by protection, the last by insulation
-pub sum_last : (s : ℕ) (xs : List Layer) (x : Layer) → sum_after s (xs ++ (x ∷ [])) ≡ with_layer Insulation (protected_after s xs) x
-unfolding protected_after sum_after
+pub sum_last : (s : ℕ) (xs : List Layer) (x : Layer) → sum_after_in parts_per_minute s (xs ++ (x ∷ [])) ≡ with_layer Insulation (protected_after s xs) x
+unfolding protected_after sum_after_in
 sum_last s [] x = refl
 sum_last s (y ∷ []) x = refl
 sum_last s (y ∷ z ∷ xs) x = sum_last (with_layer Protection s y) (z ∷ xs) x
@@ -55,20 +56,20 @@ protected_more s gs ts i =
 -- boards, then lamellae of which the last is lamella i
 pub sum_of :
     (bs : List Layer) (gs ts : List ℕ) (i : ℕ)
-    → sum_after 0 (bs ++ map lamella_layer (lamellae_of gs ts (i + 1)))
+    → sum_after_in parts_per_minute 0 (bs ++ map lamella_layer (lamellae_of gs ts (i + 1)))
     ≡ with_layer Insulation (protected_after (protected_after 0 bs) (map lamella_layer (lamellae_of gs ts i))) (lamella_layer (lamella (get_or gs i 0) (get_or ts i 0)))
 sum_of bs gs ts i =
     let ws = map lamella_layer (lamellae_of gs ts i) in
     let x = lamella_layer (lamella (get_or gs i 0) (get_or ts i 0)) in
-    ap (λ (k : ℕ). sum_after 0 (bs ++ map lamella_layer (lamellae_of gs ts k))) (add-one i)
-    ∙ ap (λ (l : List Layer). sum_after 0 (bs ++ l)) (wood_more gs ts i)
-    ∙ ap (sum_after 0) (sym (append_assoc bs ws (x ∷ [])))
+    ap (λ (k : ℕ). sum_after_in parts_per_minute 0 (bs ++ map lamella_layer (lamellae_of gs ts k))) (add-one i)
+    ∙ ap (λ (l : List Layer). sum_after_in parts_per_minute 0 (bs ++ l)) (wood_more gs ts i)
+    ∙ ap (sum_after_in parts_per_minute 0) (sym (append_assoc bs ws (x ∷ [])))
     ∙ sum_last 0 (bs ++ ws) x
     ∙ ap (λ (k : ℕ). with_layer Insulation k x) (protected_append 0 bs ws)
 
 -- a sum only grows, so that layers behind one that is enough do not matter
 grows : (role : Role) (s : ℕ) (x : Layer) → s ≤ with_layer role s x
-unfolding with_layer
+unfolding with_layer_in
 grows role s x = omega arith
 
 pub more_up_to :

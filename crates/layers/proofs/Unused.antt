@@ -6,11 +6,11 @@ use Rattle.panel.proofs.Used.{lamellae_cleared, unused}
 use Rattle.panel.proofs.Turning.{least_same}
 use Rattle.refusals.specs.Lines.{unless_refused}
 use Rattle.refusals.proofs.Unused.{refusal_unused}
-use Rattle.layers.specs.Layers.{ei_sum, ei_minute, printed_ei}
+use Rattle.layers.specs.Layers.{ei_sum_in, ei_sum, ei_minute, printed_ei}
 use Rattle.layers.specs.Answers.{ei_answer, ei_sum_answer}
 
 sum_unused : (p q : Panel) → SameUsed p q → ei_sum p ≡ ei_sum q
-unfolding ei_sum
+unfolding ei_sum_in
 sum_unused = unused ei_sum (λ p. rw (lamellae_cleared p) refl)
 
 minute_unused : (p q : Panel) → SameUsed p q → ei_minute p ≡ ei_minute q

@@ -5,7 +5,7 @@ use Rattle.refusals.specs.Lines.{unless_refused}
 use Rattle.refusals.specs.Refusals.{panel_refusal}
 use Rattle.layers.specs.Layers.{printed_ei, least_sum}
 
--- the sum of the layer times, hundredths of a minute
+-- the sum of the layer times, thousandths of a minute
 unfoldable pub ei_sum_answer : Panel → Result ℕ ℕ
 ei_sum_answer p = unless_refused (panel_refusal p) (least_sum p)
 

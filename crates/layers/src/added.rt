@@ -14,7 +14,7 @@ use panel::boards::material_of;
 use panel::{Board, Cladding, Material, WHOLE_JOINT};
 
 // With a board more, by protection. It and `with_lamella` are kept as they are: a lamella has a role and no joint, a board a joint and no role.
-#[tactic(auto, unfolding(crate::specs::Layers::with_layer, crate::specs::Layers::time_of, crate::specs::Layers::joint_of))]
+#[tactic(auto, unfolding(crate::specs::Layers::with_layer_in, crate::specs::Layers::time_of, crate::specs::Layers::joint_of))]
 fn with_board(s: u32, b: Board) -> u32
     requires { (s ≤ longest_time) × BoardKeeps b }
     ensures { (result ≡ with_layer Protection s (board_layer b)) × (result ≤ s + longest_time) }
@@ -24,7 +24,7 @@ fn with_board(s: u32, b: Board) -> u32
 }
 
 // With a lamella more. Its direction does not matter.
-#[tactic(auto, unfolding(crate::specs::Layers::with_layer, crate::specs::Layers::time_of, crate::specs::Layers::joint_of))]
+#[tactic(auto, unfolding(crate::specs::Layers::with_layer_in, crate::specs::Layers::time_of, crate::specs::Layers::joint_of))]
 pub(crate) fn with_lamella(role: Role, s: u32, thickness: u16) -> u32
     requires { (s ≤ 10 * longest_time) × ThicknessKeeps Wood thickness }
     ensures { WithLamella role s thickness result }

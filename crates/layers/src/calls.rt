@@ -8,7 +8,7 @@ use limits::check::Accepted;
 use panel::Panel;
 use refusals::refusal::Refusal;
 
-// The sum of the layer times in hundredths of a minute. The check and the step stay as they are: see `ei`.
+// The sum of the layer times in thousandths of a minute. The check and the step stay as they are: see `ei`.
 #[tactic(auto, using(refusals::proofs::FirstLine::handed_on, refusals::proofs::FirstLine::worked_out), unfolding(crate::specs::Answers::ei_sum_answer, limits::specs::Answers::accepted_answer))]
 pub fn ei_sum(p: Panel) -> Result<u32, Refusal>
     ensures { by_number result ≡ ei_sum_answer p }

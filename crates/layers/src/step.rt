@@ -9,7 +9,7 @@ ghost use Rattle.layers.specs.Layers.{late_keeps, positioned, layer_time};
 use numbers::search::last_keeping;
 use panel::WHOLE_JOINT;
 
-// A layer's basic time, and the sum of the layer times before it, in hundredths of a minute.
+// A layer's basic time, and the sum of the layer times before it, in thousandths of a minute.
 #[derive(Clone, Copy)]
 struct Step {
     before: u64,

@@ -33,6 +33,24 @@ largest_is test bound v l h = largest_last test bound v h l.kept (λ m k u. l.be
 pub largest_unique : (test : ℕ → Bool) (v w : ℕ) → IsLargest test v → IsLargest test w → v ≡ w
 largest_unique test v w l k = sym (largest_is test (v + w) v l (omega arith)) ∙ largest_is test (v + w) w k (omega arith)
 
+-- it is no less than a number that keeps the test
+pub no_less : (test : ℕ → Bool) (v m : ℕ) → IsLargest test v → test m ≡ true → m ≤ v
+no_less test v m l kept = go (dec_lt v m)
+  where
+    go : Dec (v < m) → m ≤ v
+    go (yes h) = absurd (not_both (test m) kept (l.beyond m h))
+    go (no h) = omega arith
+
+-- and, of a test that every smaller number keeps too, below one that does not
+pub below_unkept :
+    (test : ℕ → Bool) → ((m n : ℕ) → m ≤ n → test n ≡ true → test m ≡ true)
+    → (v m : ℕ) → IsLargest test v → test m ≡ false → v < m
+below_unkept test down v m l unkept = go (dec_lt v m)
+  where
+    go : Dec (v < m) → v < m
+    go (yes h) = h
+    go (no h) = absurd (not_both (test m) (down m v (omega arith) l.kept) unkept)
+
 -- for a test that every smaller number keeps too, it is enough that v keeps it and the next does not
 pub largest_by_next :
     (test : ℕ → Bool) → ((m n : ℕ) → m ≤ n → test n ≡ true → test m ≡ true)

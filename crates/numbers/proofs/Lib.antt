@@ -6,6 +6,7 @@ pub mod Lesser
 pub mod LargestKept
 pub mod LeastKept
 pub mod Searching
+pub mod ByBits
 -- Lists: first values, parts and stores.
 pub mod FirstValues
 pub mod Lists

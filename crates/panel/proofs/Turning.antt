@@ -98,6 +98,12 @@ every_holds Holds zero p h k = h
 every_holds Holds (suc zero) p h k = k
 every_holds Holds (suc (suc face)) p h k = (h, k)
 
+-- the lesser of two fires is no less where each is no less
+pub least_rises : (f g : Panel → ℕ) (ps : List Panel) → InEvery (λ p. f p ≤ g p) ps → least_of f ps ≤ least_of g ps
+least_rises f g [] h = omega arith
+least_rises f g (p ∷ []) h = h
+least_rises f g (p ∷ q ∷ ps) h = omega (arith, h.0, least_rises f g (q ∷ ps) h.1)
+
 -- panels that are alike, of the same face and alike when turned, have alike fires
 module _ (Alike : Panel → Panel → Type 0) (faces : (p q : Panel) → Alike p q → p.face ≡ q.face)
     (turns : (p q : Panel) → Alike p q → Alike (turned p) (turned q)) where

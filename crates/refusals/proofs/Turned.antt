@@ -5,8 +5,8 @@ use mathlib.Core.List.{List, [], ◌∷◌, reverse, reverse-cons}
 use mathlib.Core.Bool.{Bool, ◌||◌, or_comm}
 use Rattle.panel.specs.declared.Panel.{Panel}
 use Rattle.panel.specs.Lamellae.{Lamella, lamellae, along}
-use Rattle.panel.specs.Faces.{turned, shown}
-use Rattle.panel.proofs.Turning.{turned_lamellae, turned_count, thickness_reverse, shown_holds}
+use Rattle.panel.specs.Faces.{turned, shown, fires, InEvery}
+use Rattle.panel.proofs.Turning.{turned_lamellae, turned_count, thickness_reverse, shown_holds, every_holds}
 use Rattle.section.proofs.Mirroring.{zero_turned}
 use Rattle.refusals.specs.Lines.{Line, refusal, down_to}
 use Rattle.refusals.specs.Causes.{bad_lamella, some}
@@ -45,3 +45,7 @@ to12_turned p = ap (λ (ls : List Line). refusal (down_to 12 ls)) (lines_turned 
 -- the fire that is shown of an accepted panel is that of an accepted one
 pub shown_accepted : (p : Panel) → panel_refusal p ≡ 0 → panel_refusal (shown p) ≡ 0
 shown_accepted p e = shown_holds (λ q. panel_refusal q ≡ 0) p.face p e (refusal_turned p ∙ e)
+
+-- what holds of every accepted panel holds in every fire of one: turned it is accepted too
+pub in_every_fire : (Holds : Panel → Type 0) → ((p : Panel) → panel_refusal p ≡ 0 → Holds p) → (p : Panel) → panel_refusal p ≡ 0 → InEvery Holds (fires p)
+in_every_fire Holds holds p e = every_holds Holds p.face p (holds p e) (holds (turned p) (refusal_turned p ∙ e))

@@ -1,4 +1,4 @@
-// `sum HEX TEXT`: the layer times of the record's panel. Prints their sum in hundredths of a minute and EI in minutes, or the refusal,
+// `sum HEX TEXT`: the layer times of the record's panel. Prints their sum in thousandths of a minute and EI in minutes, or the refusal,
 // and the text. A refused record stands for a blank panel.
 use panel::Panel;
 use refusals::refusal::Refusal;

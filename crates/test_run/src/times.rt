@@ -1,5 +1,5 @@
 // `time KIND H TEXT`: the basic time at a thickness in tenths of mm. KIND is `bp` or `bi` for protection or insulation by gypsum, as a board,
-// `lp` or `li` by solid wood, as a lamella, `op` or `oi` by OSB, `pp` or `pi` by particle board. Prints the time in hundredths of a minute,
+// `lp` or `li` by solid wood, as a lamella, `op` or `oi` by OSB, `pp` or `pi` by particle board. Prints the time in thousandths of a minute,
 // or the refusal, and the text.
 use basic_times::Role;
 use basic_times::calls::basic_time;

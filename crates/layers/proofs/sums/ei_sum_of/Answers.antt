@@ -2,7 +2,8 @@
 use Prim.Native.Nat.{ℕ, ◌+◌, ◌-◌, ◌<◌, ◌≤◌, min}
 use Rattle.layers.proofs.Runs.{lamellae_lent, sum_of, more_up_to, enough_up_to}
 use Rattle.basic_times.specs.declared.Role.TheVariants.{Insulation}
-use Rattle.layers.specs.Layers.{Layer, with_layer, board_layer, lamella_layer, sum_after, ei_sum, protected_after}
+use Rattle.basic_times.specs.Rules.{parts_per_minute}
+use Rattle.layers.specs.Layers.{Layer, with_layer, board_layer, lamella_layer, sum_after_in, ei_sum_in, ei_sum, protected_after}
 use Rattle.limits.proofs.Accepted.{thicknesses_keep}
 use Rattle.limits.specs.Keeps.{ThicknessKeeps}
 use Rattle.panel.specs.Boards.{boards_of}
@@ -56,12 +57,12 @@ so_far c =
 
 -- and the last by insulation
 whole : (p : Panel) → 1 ≤ p.count → with_layer Insulation (protected_in p) (last_in p) ≡ ei_sum p
-unfolding ei_sum
+unfolding ei_sum_in
 whole p least =
     let bs = map board_layer (boards_of p.cladding) in
     let e : p.count - 1 + 1 ≡ p.count = omega arith in
     sym (sum_of bs p.directions p.thicknesses (p.count - 1))
-    ∙ ap (λ (k : ℕ). sum_after 0 (bs ++ map lamella_layer (lamellae_of p.directions p.thicknesses k))) e
+    ∙ ap (λ (k : ℕ). sum_after_in parts_per_minute 0 (bs ++ map lamella_layer (lamellae_of p.directions p.thicknesses k))) e
 
 pub returns-then-s-enough-clause-sum : goal.returns-then-s-enough-clause-sum
 returns-then-s-enough-clause-sum c =
