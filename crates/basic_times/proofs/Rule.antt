@@ -1,16 +1,16 @@
 -- "Each entry is the largest whole number whose fifth or tenth power keeps to the rule", for every thickness of each table and whatever the
 -- parts of a minute: one law for any rule, and that no rule gives more than `longest_in`.
 use Prim.Native.Nat.{zero, ℕ, suc, ◌*◌, ◌^◌, ◌<◌, ◌≤◌}
-use mathlib.Core.Path.{◌≡◌, sym, ap, ◌∙◌}
-use mathlib.Core.Bool.{Bool, true, false, ◌&&◌}
+use mathlib.Core.Path.{◌≡◌, sym, ap, ap₂, ◌∙◌}
+use mathlib.Core.Bool.{Bool, true, false, not, ◌&&◌}
 use native.Mathlib.Omega.{arith}
-use native.Mathlib.Nat.{zero-mul, pow-succ', one-le-pow, mul-le-mul_left, mul-le-mul_right, mul-lt-mul_of_pos_right, pow-le-pow_left, le_trans}
-use borrow.Author.Tests.{le-leb, leb-true, lt-leb}
-use lib.Dec.{T, ltb, ltb→lt}
-use Rattle.numbers.proofs.Booleans.{IsTrue-left, IsTrue-right}
+use native.Mathlib.Nat.{zero-mul, mul-one, mul_assoc, mul_left_comm, pow-succ', one-le-pow, mul-le-mul_left, mul-le-mul_right, pow-le-pow_left, le_trans}
+use borrow.Author.Tests.{le-leb, leb-true, leb-false, lt-leb}
+use lib.Dec.{T, leb, ltb, ltb→lt}
+use Rattle.numbers.proofs.Booleans.{IsTrue-false, IsTrue-left, IsTrue-right}
 use Rattle.numbers.specs.Largest.{IsLargest}
 use Rattle.numbers.proofs.LargestKept.{largest_found, largest_within}
-use Rattle.numbers.proofs.Products.{power_of_product}
+use Rattle.numbers.proofs.Products.{power_of_product, leb_scaled}
 use Rattle.panel.specs.declared.Material.{Material}
 use Rattle.panel.specs.Materials.{thickest}
 use Rattle.panel.proofs.Thicknesses.{every_material}
@@ -36,41 +36,43 @@ keeps_zero parts r h pos =
     none (suc root) scale pos = ap (λ (k : ℕ). k * scale) (pow-succ' 0 root ∙ zero-mul (0 ^ root)) ∙ zero-mul scale
     none zero scale pos = elim pos [ ]
 
--- up to the thickness `top` the rule gives less than the longest time, in minutes
+-- what does not keep to a rule at the greatest thickness keeps to it at no smaller one, and nor does a greater number
+fails_on : (parts : ℕ) (r : Rule) (h top n m : ℕ) → h ≤ top → n ≤ m → keeps parts r top n ≡ false → keeps parts r h m ≡ false
+fails_on parts r h top n m hh nm e =
+    let base = (r.base * parts) ^ r.root in
+    let scale = r.reference ^ r.power in
+    let far : base * top ^ r.power < n ^ r.root * scale = leb-false (n ^ r.root * scale) (base * top ^ r.power) e in
+    let less : base * h ^ r.power ≤ base * top ^ r.power = mul-le-mul_left base (pow-le-pow_left hh r.power) in
+    let more : n ^ r.root * scale ≤ m ^ r.root * scale = mul-le-mul_right scale (pow-le-pow_left nm r.root) in
+    lt-leb (m ^ r.root * scale) (base * h ^ r.power) (omega arith)
+
+-- in c times as many parts to the minute, c times a number keeps to a rule exactly when the number does: both sides gain c^root
+pub kept_alike : (parts c : ℕ) → 0 < c → (r : Rule) (h v : ℕ) → keeps (c * parts) r h (c * v) ≡ keeps parts r h v
+kept_alike parts c positive r h v =
+    ap₂ leb (out_of_power v (r.reference ^ r.power))
+    (ap (λ (x : ℕ). x ^ r.root * h ^ r.power) (mul_left_comm r.base c parts) ∙ out_of_power (r.base * parts) (h ^ r.power))
+    ∙ leb_scaled (c ^ r.root) (v ^ r.root * r.reference ^ r.power) ((r.base * parts) ^ r.root * h ^ r.power) (one-le-pow r.root c positive)
+  where
+    out_of_power : (x scale : ℕ) → (c * x) ^ r.root * scale ≡ c ^ r.root * (x ^ r.root * scale)
+    out_of_power x scale = ap (λ (y : ℕ). y * scale) (power_of_product c x r.root) ∙ mul_assoc (c ^ r.root) (x ^ r.root) scale
+
+-- at the thickness `top` the longest time, in whole minutes, does not keep to the rule
 abbrev pub bounded : Rule → ℕ → Bool
-bounded r top = ltb 0 r.root && ltb (r.base ^ r.root * top ^ r.power) (longest_in 1 ^ r.root * r.reference ^ r.power)
+bounded r top = ltb 0 r.root && not (keeps 1 r top (longest_in 1))
 
 -- then 0 keeps to it, and what is above `longest_in` does not, whatever the parts
 pub zero_kept : (parts : ℕ) (r : Rule) (top : ℕ) → T (bounded r top) → (h : ℕ) → keeps parts r h 0 ≡ true
 zero_kept parts r top t h =
-    keeps_zero parts r h
-    (ltb→lt 0 r.root (IsTrue-left (ltb 0 r.root) (ltb (r.base ^ r.root * top ^ r.power) (longest_in 1 ^ r.root * r.reference ^ r.power)) t))
-
-swapped : (x y z : ℕ) → x * y * z ≡ x * z * y
-swapped x y z = omega arith
+    keeps_zero parts r h (ltb→lt 0 r.root (IsTrue-left (ltb 0 r.root) (not (keeps 1 r top (longest_in 1))) t))
 
 pub longer_not_kept :
     (parts : ℕ) → 0 < parts → (r : Rule) (top : ℕ) → T (bounded r top) → (h : ℕ) → h ≤ top
     → (m : ℕ) → longest_in parts < m → keeps parts r h m ≡ false
 longer_not_kept parts some r top t h l m k =
-    let scale = r.reference ^ r.power in
-    let unit = parts ^ r.root in
-    let base = r.base ^ r.root in
-    let most = top ^ r.power in
-    let in_minutes : base * most < longest_in 1 ^ r.root * scale =
-    ltb→lt (base * most) (longest_in 1 ^ r.root * scale) (IsTrue-right (ltb 0 r.root) (ltb (base * most) (longest_in 1 ^ r.root * scale)) t) in
-    let in_parts : base * most * unit < longest_in 1 ^ r.root * scale * unit =
-    mul-lt-mul_of_pos_right in_minutes (one-le-pow r.root parts some) in
-    let less : (r.base * parts) ^ r.root * h ^ r.power ≤ base * most * unit =
-    le_trans (mul-le-mul_left ((r.base * parts) ^ r.root) (pow-le-pow_left l r.power))
-    (le-of-eq (ap (λ (x : ℕ). x * most) (power_of_product r.base parts r.root) ∙ swapped base unit most)) in
-    let more : longest_in 1 ^ r.root * scale * unit ≤ m ^ r.root * scale =
-    le_trans (le-of-eq (swapped (longest_in 1 ^ r.root) scale unit ∙ sym (ap (λ (x : ℕ). x * scale) (power_of_product (longest_in 1) parts r.root))))
-    (mul-le-mul_right scale (pow-le-pow_left (omega (arith, k)) r.root)) in
-    lt-leb (m ^ r.root * scale) ((r.base * parts) ^ r.root * h ^ r.power) (omega (arith, less, in_parts, more))
-  where
-    le-of-eq : {x y : ℕ} → x ≡ y → x ≤ y
-    le-of-eq e = omega arith
+    let longest = keeps 1 r top (longest_in 1) in
+    let in_minutes : longest ≡ false = IsTrue-false longest (IsTrue-right (ltb 0 r.root) (not longest) t) in
+    fails_on parts r h top (parts * longest_in 1) m l (omega (arith, k))
+    (ap (λ (p : ℕ). keeps p r top (parts * longest_in 1)) (sym (mul-one parts)) ∙ kept_alike 1 parts some r top (longest_in 1) ∙ in_minutes)
 
 pub rule_largest :
     (parts : ℕ) → 0 < parts → (r : Rule) (top : ℕ) → T (bounded r top) → (h : ℕ) → h ≤ top → IsLargest (keeps parts r h) (largest_time parts r h)
