@@ -12,7 +12,7 @@ int main(void)
     }
     uint8_t bytes[64]; /* the longest record has 54 bytes: of a longer input the first 64 are refused for their length */
     size_t length = fread(bytes, 1, sizeof bytes, stdin);
-    if (ferror(stdin)) { /* fread answers less at the end of the input and where a read fails */
+    if (ferror(stdin)) { /* fread answers less at the end of the input and where a read fails; no byte at all would be panel G */
         perror("card: standard input could not be read");
         return 1;
     }

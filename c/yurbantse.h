@@ -7,13 +7,19 @@
    failure time in thousandths of a minute. There is no board, one or two of gypsum (types A, F and H), or one of OSB (O) or particle
    board (P).
 
+   No byte at all, `bytes_length` 0, is a record too, so that pressing start shows whether the unit is alive. It means panel G, 30 mm along, 40
+   across, 30 along, strength 24.0 N/mm2, rate 0.65 mm/min, no boards, bond that holds, moment 3,000 N·m, in version 1: the functions answer
+   what they answer to its 27 bytes. So whoever could not read a record must not call: a length of 0 that stands for a failed read gets
+   the card of a panel that nobody asked for. Fewer bytes than 21, but one or more, are refused.
+
    Any bytes may be given, and any space lent; the functions always return. The caller must see to what C cannot say:
-   - a pointer points to as many bytes as are named, and is not null, even where that is none;
+   - a pointer points to as many bytes as are named. Where that is none, nothing is read or written through it; but it is not null even then: the
+     address of any object will do;
    - `out` shares no byte with `bytes`, and nothing else writes either before the call returns.
    The functions keep nothing, allocate nothing and call only memcpy and memset. Two threads may call them at once on different spaces.
 
    Stack, from the call on, without what memcpy and memset use: a card takes at most 2,447 bytes, the least cut 2,511, a refusal
-   104 (read off the machine code and tried on a painted stack, by bench/stack.py). Constants: 6,498 bytes, read only. */
+   104 (read off the machine code and tried on a painted stack, by bench/stack.py). Constants: 6,525 bytes, read only. */
 #ifndef YURBANTSE_H
 #define YURBANTSE_H
 
@@ -26,7 +32,7 @@ extern "C" {
 
 /* The text that this header was written for: document 01 with the requests of document 02 from the first to this one. Hold the library to it
    once: yurbantse_version() == YURBANTSE_VERSION. */
-#define YURBANTSE_VERSION 8
+#define YURBANTSE_VERSION 9
 
 /* The last request that is in the library. */
 uint32_t yurbantse_version(void);

@@ -93,6 +93,12 @@ def check_versions():
     same([peer.same_build(G, other) for other in (faced(G, 0)._replace(moment=0), faced(G, 1), faced(G, 2))], [True, False, False])
 
 
+def check_no_byte():
+    """Document 02, 9/14: G's card and record for no byte; one to 20 bytes meet 1."""
+    same((peer.text_lines(b""), peer.encode(peer.decode(b"")[1])), (PRINTED, peer.encode(G)))
+    same({peer.decode(bytes([byte]) * length) for byte in (0, 255) for length in range(1, 21)}, {(1, peer.BLANK)})
+
+
 def depths(panel):
     """What is told of the fire at times and at depths."""
     return (peer.depth_table(panel), [(peer.char(panel, minute), peer.effective_depth(panel, minute)) for minute in range(0, 361, 7)],
@@ -188,6 +194,7 @@ if __name__ == "__main__":
     check_document()
     check_wood_boards()
     check_versions()
+    check_no_byte()
     check_readings()
     check_walls()
     check_parts(10 * count)

@@ -25,6 +25,7 @@ THIN = 1_000   # tenths of mm: the cuts of a thicker panel that is accepted take
 
 
 def random_space(rng, record):
+    record = peer.taken_for(record)
     return rng.choice([0, 64, max(0, len(record) - 1), min(64, len(record)), rng.randint(0, 64)])
 
 
@@ -57,6 +58,7 @@ def partner(rng, record):
         return peer.encode(panel._replace(version=3 - panel.version, moment=0))
     if way == 5:
         return peer.encode(panel._replace(version=2, face=rng.randrange(3), lamellae=panel.lamellae[::rng.choice([1, -1])]))
+    record = peer.taken_for(record)
     at = rng.randrange(17, len(record))
     return record[:at] + bytes([record[at] ^ 1 << rng.randrange(3)]) + record[at + 1:]
 

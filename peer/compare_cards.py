@@ -4,7 +4,8 @@ Calls the proved functions as C does (target/staticlib/libcard_c.a, by tools/sta
 compares with peer.py: the card, the number answered, and every byte of the lent space. The records, of both versions and every face, are
 in turn within the limits, failing at any minute, at once or after a recovery, at a limit, damaged, and with one byte changed, each place
 of the record in its turn; the first are all lengths from none to 128 bytes. The space is the longest card's, the very card's, or one byte
-less. Then the least cut of C panels of thin lamellae, and of as many of these records that are refused.
+less. Then the least cut of C panels of thin lamellae, and of as many of these records that are refused or have no byte. For no byte the
+pointer is to nothing that could be read: none may be. It is null too, of which the language promises nothing, and the header keeps its rule.
 Before, that the library and its header say which requests are in, as peer.py does.
 Ends with status 1 at a disagreement, and prints the record; and where something is missing, and says what.
 """
@@ -58,6 +59,13 @@ def record_of(seed, number):
     return of_length(rng, number) if number < LENGTHS else KINDS[number % len(KINDS)](rng, number)
 
 
+def handed(record):
+    """The pointers that are handed over for a record."""
+    if not record:
+        return [ctypes.c_void_p(1), ctypes.c_void_p(None)]
+    return [(ctypes.c_ubyte * len(record)).from_buffer_copy(record)]
+
+
 def called(function, space, *words):
     """What a function answers, and what it leaves in a lent space; beyond the space nothing may change."""
     room = bytearray(ROOM)
@@ -77,13 +85,12 @@ def differs(library, seed, number):
     record = record_of(seed, number)
     refusal, panel = peer.decode(record)
     card = b"" if refusal else peer.card(panel)
-    given = (ctypes.c_ubyte * len(record)).from_buffer_copy(record)
     said = peer.refusal_text(refusal or number % 256)
     agree = [called(library.yurbantse_card, space, given, ctypes.c_size_t(len(record))) == expected(card, refusal, space)
-             for space in {LONGEST, len(card), max(0, len(card) - 1)}]
+             for given in handed(record) for space in {LONGEST, len(card), max(0, len(card) - 1)}]
     agree += [called(library.yurbantse_refusal, space, ctypes.c_ubyte(refusal or number % 256)) == expected(said, 0, space)
               for space in (LONGEST, len(said), len(said) - 1)]
-    return refusal, None if all(agree) else record.hex()
+    return refusal, None if all(agree) else record.hex() or "no byte"
 
 
 def cut_differs(library, seed, number):
@@ -92,13 +99,12 @@ def cut_differs(library, seed, number):
     records = [any_record(rng, random_records.thin_panel(rng)), record_of(seed, number)]
     for record in records:
         refusal, panel = peer.decode(record)
-        if record is records[1] and not refusal:
+        if record is records[1] and record and not refusal:
             continue
         cut = None if refusal else peer.least_cut(panel)
         expected = -refusal if refusal else 0 if cut is None else 1_000 * cut[0] + cut[1]
-        given = (ctypes.c_ubyte * len(record)).from_buffer_copy(record)
-        if library.yurbantse_planing(given, ctypes.c_size_t(len(record))) != expected:
-            return record.hex()
+        if any(library.yurbantse_planing(given, ctypes.c_size_t(len(record))) != expected for given in handed(record)):
+            return record.hex() or "no byte"
     return None
 
 

@@ -63,6 +63,8 @@ def two(outer, inner, **more):
 # In version 1; in version 2 the face is at 3 and what follows one place further.
 VERSION, BOND, RATE, GAP, STRENGTH, MOMENT, BOARDS, GIVEN_TIME, FIRST_BOARD = 2, 3, 4, 5, 6, 8, 12, 13, 17
 FACE = 3
+# No record: refused, so that a blank panel stands for it. No byte at all is one.
+ONE_BYTE = bytes(1)
 
 
 def with_length(record):
@@ -178,9 +180,12 @@ def lamella_cases():
 
 def length_cases():
     """(record, text): lengths, counts and version."""
-    yield b"", "no bytes"
+    yield b"", "no byte, so G: its record is written, not none"
     for length in (1, 2, 3, 20):
         yield with_length(g)[:length], f"cut to {length} bytes"
+    for length in (1, 20, 21):
+        yield bytes(length), f"{length} zeros"
+    yield bytes([255]), "one byte of 255"
     yield with_length(peer.encode(SHORTEST)[:20]), "cut to 20 bytes, length field 20"
     yield peer.encode(SHORTEST), "21 bytes"
     yield with_length(peer.encode(SHORTEST) + b"\0"), "22 bytes, version 1"
@@ -366,8 +371,10 @@ def write_cases():
         for space in spaces:
             yield space, record, f"{name} of version 2, face {panel.face}, {len(record)} bytes into {space}"
     for space in (0, 20, 21, 64):
-        yield space, b"", f"a blank panel into {space}"
+        yield space, ONE_BYTE, f"one byte, so a blank panel into {space}"
     yield 64, peer.encode(G._replace(moment=43_057)), "a refused record, so a blank panel"
+    for space in (0, 26, 27, 28, 64):
+        yield space, b"", f"no byte, so G, 27 bytes into {space}"
     for panel, text in reading_cases():
         yield 64, peer.encode(panel), text
 
@@ -379,6 +386,7 @@ def section_cases():
     for depth in (0, 1):
         yield depth, peer.encode(G._replace(moment=43_056)), f"G, moment 43,056, at {depth}"
     yield 0, peer.encode(G._replace(moment=43_057)), "a refused record, so a blank panel"
+    yield 700, b"", "no byte, so G, at 700"
     for depth in (0, 69, 70, 71, 99, 100, 700, 701, 1270, 1271):
         yield depth, peer.encode(RECOVERS), f"the panel that recovers at {depth:,}"
     turned = TURNED._replace(moment=greatest_moment(TURNED))
@@ -478,9 +486,14 @@ def build_cases():
             (faced(TURNED, FIRST_FACE), last, "turned round and the face other, so the same fire"),
             (faced(G, FIRST_FACE), faced(G, LAST_FACE), "the same from both faces, the face other")):
         yield pair(a, b, text)
-    yield b"", g, "a blank panel first"
-    yield g, b"", "a blank panel second"
-    yield b"", b"", "two blank panels"
+    yield ONE_BYTE, g, "a blank panel first"
+    yield g, ONE_BYTE, "a blank panel second"
+    yield ONE_BYTE, ONE_BYTE, "two blank panels"
+    yield b"", b"", "no byte twice, so G and G"
+    yield b"", peer.encode(G._replace(moment=0)), "no byte, so G, and G without moment"
+    yield b"", peer.encode(G._replace(bond=1)), "no byte, so G, and G falling"
+    yield peer.encode(with_first_lamella(G, ALONG, 301)), b"", "G of 30.1 and no byte, so G"
+    yield b"", peer.encode(faced(G, LAST_FACE)), "no byte, so G, and G with the fire on its last face"
     yield pair(G, G._replace(moment=43_057), "the second refused, so blank")
 
 
@@ -643,7 +656,8 @@ def sum_cases():
         yield peer.encode(panel), text
     yield peer.encode(faced(G, FIRST_FACE)), "G, version 2, face 0"
     yield from wall_records(LAST_FACE, EACH_ALONE)
-    yield b"", "no bytes, so a blank panel"
+    yield ONE_BYTE, "one byte, so a blank panel"
+    yield b"", "no byte, so G"
 
 
 def grade_cases():
@@ -822,7 +836,9 @@ def char_cases():
         for minute in minutes:
             yield minute, peer.encode(panel), text
     for minute in (0, 361):
-        yield minute, b"", "a blank panel"
+        yield minute, ONE_BYTE, "a blank panel"
+    for minute in (30, 361):
+        yield minute, b"", "no byte, so G"
 
 
 def table_cases():
@@ -844,7 +860,9 @@ def table_cases():
     yield 361, peer.encode(faced(thickening(), LAST_FACE)), "nine lamellae behind two F, falling, face 1"
     yield 360, peer.encode(faced(WALL, EACH_ALONE)), "wall, face 2, into 360"
     for space in (0, 400):
-        yield space, b"", f"a blank panel into {space}"
+        yield space, ONE_BYTE, f"a blank panel into {space}"
+    for space in (360, 361):
+        yield space, b"", f"no byte, so G into {space}"
 
 
 # ---------------------------------------------------------------- Load minutes and cards
@@ -951,7 +969,8 @@ def unstarred_cases():
 
 def refused_cases():
     """(record, text): each of lines 1 to 13 and 16, and bytes that are no record."""
-    yield b"", "no bytes"
+    yield ONE_BYTE, "one byte"
+    yield bytes(20), "20 zeros"
     yield patched(g, VERSION, 3), "version 3"
     yield patched(g_each, FACE, 3), "face 3"
     yield patched(g_each, VERSION, 0, 3), "version 0, face 3"
@@ -990,7 +1009,9 @@ def space_cases():
     yield peer.encode(SHORT_CARD), length, "the short card where G's fits"
     for space in (0, 10, 11):
         yield peer.encode(G._replace(moment=43_057)), space, f"G, moment 43,057, refused before the space of {space} is looked at"
-    yield b"", 0, "no bytes, no space"
+    yield ONE_BYTE, 0, "one byte, no space"
+    for space in (0, length - 1, length, length + 1):
+        yield b"", space, f"no byte, so G's card of {length} bytes into {space}"
     for space in (length - 1, length):
         yield g_each, space, f"G, face 2, {length} bytes into {space}"
 
@@ -1083,7 +1104,8 @@ def panel_record_cases():
     yield peer.encode(faced(RECOVERS, LAST_FACE)), "the panel that recovers, face 1"
     yield peer.encode(faced(behind(WALL, (A, 125)), EACH_ALONE)), "wall behind A, face 2"
     yield peer.encode(G._replace(moment=43_057)), "a refused record, so a blank panel"
-    yield b"", "no bytes, so a blank panel"
+    yield ONE_BYTE, "one byte, so a blank panel"
+    yield b"", "no byte, so G"
 
 
 def seconds_cases():
@@ -1115,7 +1137,9 @@ def reserve_cases():
         yield wall, wanted, f"wall behind A, face 2, R 78 and 46, wanted {wanted}"
     yield peer.encode(faced(RECOVERS, LAST_FACE)), 60, "the panel that recovers, face 1, wanted 60"
     for wanted in (0, 360, 361):
-        yield b"", wanted, f"a blank panel, wanted {wanted}"
+        yield ONE_BYTE, wanted, f"a blank panel, wanted {wanted}"
+    for wanted in (103, 361):
+        yield b"", wanted, f"no byte, so G, wanted {wanted}"
 
 
 def grade_panel_cases():
@@ -1199,6 +1223,7 @@ def planing_cases():
     for panel, text in planing_panels():
         yield peer.encode(panel), text
     yield peer.encode(G._replace(moment=43_057)), "a refused record, so a blank panel"
+    yield b"", "no byte, so G"
 
 
 # ---------------------------------------------------------------- Raw panels
@@ -1420,7 +1445,7 @@ CASES = {"read": record_cases, "write": write_cases, "build": build_cases,
          "panel": raw_cases, "each": each_cases, "pair": pair_cases, "start": start_cases}
 
 # a file of `cards`: the record in it
-CARD_FILES = {"empty": b"", "long": peer.encode(faced(LONGEST, FIRST_FACE)) + bytes(1),
+CARD_FILES = {"empty": b"", "one_byte": ONE_BYTE, "long": peer.encode(faced(LONGEST, FIRST_FACE)) + bytes(1),
               "refused": peer.encode(G._replace(moment=43_057)),
               "last_face": peer.encode(faced(behind(WALL, (A, 125)), LAST_FACE)),
               "each_face": peer.encode(faced(behind(WALL, (A, 125)), EACH_ALONE)), "face_3": patched(g_each, FACE, 3)}

@@ -2,8 +2,8 @@
 
 Holds the stored cases to peer.py: each of its sentences is made wrong, one at a time, and some stored case of the test program must then be
 answered otherwise. A mutant that every case answers as before is a missing case, or says the same in other words: those that do are named
-in SAME below, each with its reason. NAME: a function of peer.py, whose mutants alone are tried. Takes half an hour on two cores. Ends with
-status 1 where a mutant lives, and prints it.
+in SAME below, each with its reason. NAME: a function of peer.py, whose mutants alone are tried. Takes two and a half hours of processor time.
+Ends with status 1 where a mutant lives, and prints it.
 
 The cases are those of make_cases.py, worked out once by peer.py as it is. A mutant is a copy of peer.py with another operator, another
 number, the other of two, or a condition left out; and the misreadings of MISREADINGS, which somebody could write down in earnest.
@@ -27,9 +27,8 @@ with open(os.path.join(HERE, "programs.py")) as file:
 
 LONGEST = 600  # seconds that a mutant may take for one case
 
-# What is no sentence of the paper: how the failure time is found, which check.py holds to what it means, by some of these; tables; and what
-# cases are made of.
-APART = {"G", "LAST_REQUEST", "last_time_at", "scanned_time", "check_closeness", "check_load_minute", "exact_failure", "entries"}
+# What is no sentence of the paper: how the failure time is found, which check.py holds to what it means, by some of these; and tables.
+APART = {"LAST_REQUEST", "last_time_at", "scanned_time", "check_closeness", "check_load_minute", "exact_failure", "entries"}
 
 # (function, the line and what stands there in the mutant): why it says the same
 NO_THIRD = "the cladding of a panel is none, one or two boards; of a record more are refused as it is read"
@@ -96,6 +95,12 @@ SAME = {
 
 # (what somebody could read, the text of peer.py, what stands there instead)
 MISREADINGS = [
+    ("zero bytes are refused", "return encode(G) if len(data) == 0 else data", "return data"),
+    ("zero bytes mean G without moment", "return encode(G) if len(data) == 0 else data", "return encode(G._replace(moment=0)) if len(data) == 0 else data"),
+    ("zero bytes mean G in version 2", "return encode(G) if len(data) == 0 else data", "return encode(G._replace(version=2)) if len(data) == 0 else data"),
+    ("zero bytes mean G with falling bond", "return encode(G) if len(data) == 0 else data", "return encode(G._replace(bond=1)) if len(data) == 0 else data"),
+    ("bytes that are all 0 mean G", "return encode(G) if len(data) == 0 else data", "return encode(G) if not any(data) else data"),
+    ("what is too short for a record means G", "return encode(G) if len(data) == 0 else data", "return encode(G) if len(data) < 21 else data"),
     ("EI's grade and REI of a wall by its first face alone",
      "def ei_grade(panel):\n    return graded(ei_minute, panel)", "def ei_grade(panel):\n    return graded(lambda p: ei_minute(fires(p)[0]), panel)"),
     ("REI of a wall by the EI of its first face alone",

@@ -9,7 +9,7 @@ from functools import cache
 from math import ceil, floor
 from typing import NamedTuple
 
-LAST_REQUEST = 8  # of document 02
+LAST_REQUEST = 9  # of document 02
 
 # ---------------------------------------------------------------- The panel record
 
@@ -41,7 +41,7 @@ class Panel(NamedTuple):
 
 # What stands beside a refusal: every number 0, no board, no lamella.
 BLANK = Panel(0, 0, 0, 0, 0, 0, 0, 0, (), ())
-# The document's panel G: 30 along, 40 across, 30 along (mm).
+# The document's panel G with moment 3,000: 30 along, 40 across, 30 along (mm).
 G = Panel(version=1, face=FIRST_FACE, bond=0, rate=65, gap=0, strength=240, moment=3_000, failure_time=0, boards=(),
           lamellae=((ALONG, 300), (0, 400), (ALONG, 300)))
 
@@ -179,8 +179,14 @@ def panel_refusal(panel):
     return 0
 
 
+def taken_for(data):
+    """Zero bytes mean panel G with moment 3,000: its version 1 record stands for them. Others stand for themselves."""
+    return encode(G) if len(data) == 0 else data
+
+
 def decode(data):
     """(refusal, panel): refusal 0 and the panel of the record, or the first of lines 1, 2, 16 and 3 to 13 that fits and BLANK."""
+    data = taken_for(data)
     if not 21 <= len(data) <= 54 or number(data, 0, 2) != len(data):
         return 1, BLANK
     version = data[VERSION_AT]

@@ -267,7 +267,7 @@ def patched(record, at, byte):
 def damaged(rng, record):
     """The record cut short, made longer, with a byte changed, put in or taken out, or something else in its place."""
     more = peer.face_bytes(record[2])
-    way = rng.randrange(12)
+    way = rng.randrange(13)
     if way == 0:
         return record[:rng.randrange(len(record))]
     if way == 1:
@@ -290,6 +290,8 @@ def damaged(rng, record):
         return patched(record, 2, rng.choice([0, 1, 2, 3, 255]))
     if way == 10:  # where version 2 has its face, and version 1 its bond
         return patched(record, 3, rng.choice([0, 1, 2, 3, 4, 255]))
+    if way == 11:  # fewer than any record has, or none
+        return rng.randbytes(rng.choice([0, 0, 1, 20]))
     # a face byte in version 1, or none in version 2
     return with_length(record[:3] + record[4:] if more else record[:3] + bytes([rng.randrange(4)]) + record[3:])
 

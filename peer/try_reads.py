@@ -1,14 +1,16 @@
 """try_reads.py REPOSITORY
 
 Tries on the proved programs what no contract says of files, standard input and standard output: where one cannot be opened or read, or a
-write fails, a program says so in one line on standard error and ends with status 1, and of an input that it could not read it prints nothing;
-else it prints what peer.py says, of a refused record too, with nothing on standard error and status 0. The programs are `card`
+write fails, a program says so in one line on standard error and ends with status 1, and of an input that it could not read it prints nothing,
+no card of panel G either; else it prints what peer.py says, of a refused record too, and of an input that ended with no byte the card of
+panel G, with nothing on standard error and status 0. The programs are `card`
 (crates/card/out), `cards` with files, `test_calls` with files and with the reads that fail, and c/example.c, where
 target/staticlib/libcard_c.a (by tools/staticlib.sh) and cc are there.
 Prints a line for each case. Ends with status 1 where a program does otherwise, and prints what it did; and where something is missing, and
 says what.
 """
 import os
+import select
 import shutil
 import signal
 import subprocess
@@ -24,6 +26,7 @@ import programs
 
 SECONDS = 20  # more than any program takes
 PAUSE = 0.01  # before each piece that is written into a pipe
+QUIET = 0.5   # that a pipe gives nothing, before it ends
 
 # ---------------------------------------------------------------- What a program reads or writes to: a descriptor, None where it is closed
 
@@ -190,11 +193,24 @@ def try_failed_reads(tried, program, g):
         tried.case(program, what, result, has_failed(result))
 
 
+def try_nothing_yet(tried, program):
+    """As long as a pipe gives nothing nothing is printed; once it has ended, panel G's card is."""
+    reader, writer = os.pipe()
+    with subprocess.Popen([program], stdin=reader, stdout=subprocess.PIPE, stderr=subprocess.PIPE) as process:
+        os.close(reader)
+        silent = not select.select([process.stdout, process.stderr], [], [], QUIET)[0] and process.poll() is None
+        os.close(writer)
+        said, wrong = process.communicate(timeout=SECONDS)
+    result = process.returncode, said, wrong
+    tried.case(program, "a pipe that gives nothing yet, and then ends", result, silent and result == (0, peer.text_lines(b""), b""))
+
+
 def try_all(tried, program, g, refused):
     for what, stdin, record in reads(g, refused):
         with stdin as descriptor:
             result = ran(program, descriptor)
         tried.case(program, what, result, result == (0, peer.text_lines(record), b""))
+    try_nothing_yet(tried, program)
     try_failed_reads(tried, program, g)
     for what, stdout in failed_writes():
         with file_of(g) as descriptor, stdout as taker:

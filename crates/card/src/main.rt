@@ -1,4 +1,4 @@
-// Prints the card of the record on standard input, or `REFUSED` and its number. Its stored input is panel G.
+// Prints the card of the record on standard input, or `REFUSED` and its number. Its stored input is panel G, which no byte means too.
 #![tactic(auto)]
 
 use std::process::ExitCode;

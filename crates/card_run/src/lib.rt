@@ -2,7 +2,7 @@
 // the line on standard error where a read or the write fails.
 #![tactic(auto)]
 
-ghost use Rattle.std.specs.Prelude.{◌≡◌, IfOk, IfSome};
+ghost use Rattle.std.specs.Prelude.{◌≡◌, [], IfOk, IfSome};
 ghost use Rattle.fire_card.specs.Printed.{printed_text};
 ghost use Rattle.card_run.specs.Input.{PrintsAsWhole};
 
@@ -17,10 +17,12 @@ use std::process::ExitCode;
 const ROOM: usize = 64;
 
 // What of the input fits into the space, which has room for one byte more than the longest record: so what is printed for the bytes read is
-// what is printed for the whole input, and for all that was left in the reader, where std knows that. After a failed read there are none.
+// what is printed for the whole input, and for all that was left in the reader, where std knows that. After a failed read there are none: no
+// byte, for which a card is printed too, is what is read only of an input that ended with none.
 fn read_input<'a, R: Read>(input: &mut R, space: &'a mut [u8; ROOM]) -> io::Result<&'a [u8]>
     ensures any { IfOk result (λ read. PrintsAsWhole ROOM read.now) }
     ensures left { IfOk result (λ read. IfSome (R.remaining input.old) (λ left. printed_text read.now ≡ printed_text left)) }
+    ensures none { IfOk result (λ read. IfSome (R.remaining input.old) (λ left. read.now ≡ [] → left ≡ [])) }
 {
     read_full(input, space)
 }

@@ -1,9 +1,10 @@
 // The sibling of the program `card`: prints the card of the record in each file that an argument names, one after the other. Where one cannot
 // be opened or read, or the write fails: the line on standard error that `card` has, with the file's name, and status 1.
 //
-// Its stored files: `empty`; `long`, one byte longer than the longest record, which it begins with; `refused`, a panel that does not carry its
-// moment; `last_face`, a record of version 2 with its fire on the last face; `each_face`, the same panel with a fire on each face alone, whose
-// lesser R comes from the one and whose lesser EI from the other; `face_3`, a face that there is not.
+// Its stored files: `empty`, no byte, which means panel G; `one_byte`, which is refused; `long`, one byte longer than the longest record, which
+// it begins with; `refused`, a panel that does not carry its moment; `last_face`, a record of version 2 with its fire on the last face;
+// `each_face`, the same panel with a fire on each face alone, whose lesser R comes from the one and whose lesser EI from the other; `face_3`, a
+// face that there is not.
 #![tactic(auto)]
 
 use card_run::{print_card, unread};

@@ -1,5 +1,6 @@
 pub mod SumsByBits
 pub mod Planed
+pub mod Printed
 pub mod Tested
 pub mod Claim
 pub mod Further

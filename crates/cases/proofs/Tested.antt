@@ -29,7 +29,12 @@ use Rattle.basic_times.proofs.Entries.{basic_by_bits}
 use Rattle.layers.specs.Layers.{ei_sum, printed_ei}
 use Rattle.cases.proofs.SumsByBits.{time_by_bits, sum_by_bits, sum_by_bits_lem, ei_by_bits, ei_by_bits_lem}
 use Rattle.grades.specs.Grades.{rei_of}
-use Rattle.cases.specs.Cases.{Case, gives, bears, bears_for, failure_time, in_phase, basic, adds_up, separates, rated, planed, Rated, Holds, EveryRowHolds}
+use Rattle.cases.specs.Cases.{Case, gives, bears, bears_for, failure_time, in_phase, basic, adds_up, separates, rated, planed, prints, Rated, Holds, EveryRowHolds}
+use Rattle.record.specs.Layouts.{panel_of}
+use Rattle.record.specs.Refusals.{record_refusal}
+use Rattle.fire_card.specs.Card.{text_of_card}
+use Rattle.fire_card.proofs.Prints.{printed_card}
+use Rattle.cases.proofs.Printed.{same_text, same_text_lem, load_said, seconds_said, ei_said, text_by, text_found}
 use Rattle.cases.proofs.Planed.{planing_by, planing_by_grade, answer_test, answer_found}
 
 -- phases are told apart by a number each
@@ -77,11 +82,19 @@ bears_test p m = eqb (panel_refusal p) 0 && last_in_one 1 (fires p) m
 abbrev pub rated_test : Panel → ℕ → ℕ → ℕ → Bool
 rated_test p r ei grade = bears_test p r && (eqb (ei_by_bits p) ei && eqb (rei_of r ei).minutes grade)
 
+-- the printed time is so many minutes and seconds
+abbrev pub bears_for_test : Panel → ℕ → ℕ → Bool
+bears_for_test p minutes seconds = eqb (panel_refusal p) 0 && (ltb seconds 60 && last_in_one 60 (fires p) (60 * minutes + seconds))
+
+-- the numbers that the text says are the panel's, and make this text
+abbrev pub prints_test : Panel → List ℕ → ℕ → ℕ → ℕ → Bool
+prints_test p text r seconds ei = bears_test p r && (bears_for_test p r seconds && (eqb (ei_by_bits p) ei && same_text (text_by p r seconds ei) text))
+
 -- a failure time is tested by the depth reached then
 abbrev pub test : Case → Bool
 test (gives worked said) = eqb worked said
 test (bears p m) = bears_test p m
-test (bears_for p minutes seconds) = eqb (panel_refusal p) 0 && (ltb seconds 60 && last_in_one 60 (fires p) (60 * minutes + seconds))
+test (bears_for p minutes seconds) = bears_for_test p minutes seconds
 test (failure_time p n q) = fails_right_after p n q
 test (in_phase p n q f) = eqb (phase_number (phase_at p n q)) (phase_number f)
 test (basic role m h t) = leb h (thickest m) && eqb (time_by_bits role m h) t
@@ -89,6 +102,7 @@ test (adds_up p n) = eqb (panel_refusal p) 0 && eqb (sum_by_bits p) n
 test (separates p minute) = eqb (panel_refusal p) 0 && eqb (ei_by_bits p) minute
 test (rated p r ei grade) = rated_test p r ei grade
 test (planed p r ei grade answer) = rated_test p r ei grade && answer_test grade p answer
+test (prints b text) = eqb (record_refusal b) 0 && prints_test (panel_of b) text (load_said text) (seconds_said text) (ei_said text)
 
 -- every row's test is true
 unfoldable pub agree : List Case → Bool
@@ -196,6 +210,21 @@ planed_tested p r ei grade answer t =
     let e = answer_found grade p answer (IsTrue-right (rated_test p r ei grade) (answer_test grade p answer) t) in
     (h, planing_by_grade p h.0 ∙ ap (λ (g : ℕ). planing_by g p) h.1.1.1 ∙ e)
 
+card_tested : (p : Panel) (text : List ℕ) (r seconds ei : ℕ) → T (prints_test p text r seconds ei) → text_of_card p ≡ text
+card_tested p text r seconds ei t =
+    let load = bears_tested p r (IsTrue-left (bears_test p r) _ t) in
+    let more = IsTrue-right (bears_test p r) _ t in
+    let time = bears_for_tested p r seconds (IsTrue-left (bears_for_test p r seconds) _ more) in
+    let rest = IsTrue-right (bears_for_test p r seconds) _ more in
+    let e = sym (ei_by_bits_lem p (accepted_before_section p load.0)) ∙ eqb→eq (ei_by_bits p) ei (IsTrue-left (eqb (ei_by_bits p) ei) _ rest) in
+    text_found p r seconds ei load.1 time.1.0 time.1.1 e
+    ∙ same_text_lem (text_by p r seconds ei) text (IsTrue-right (eqb (ei_by_bits p) ei) _ rest)
+
+prints_tested : (b text : List ℕ) → T (test (prints b text)) → Holds (prints b text)
+prints_tested b text t =
+    let e = eqb→eq (record_refusal b) 0 (IsTrue-left (eqb (record_refusal b) 0) _ t) in
+    (e, sym (printed_card b e) ∙ card_tested (panel_of b) text _ _ _ (IsTrue-right (eqb (record_refusal b) 0) _ t))
+
 pub tested : (c : Case) → T (test c) → Holds c
 tested (gives worked said) t = eqb→eq worked said t
 tested (bears p m) t = bears_tested p m t
@@ -207,6 +236,7 @@ tested (adds_up p n) t = accepted_tested p ei_sum sum_by_bits n (sum_by_bits_lem
 tested (separates p minute) t = accepted_tested p printed_ei ei_by_bits minute (λ e. ei_by_bits_lem p (accepted_before_section p e)) t
 tested (rated p r ei grade) t = rated_tested p r ei grade t
 tested (planed p r ei grade answer) t = planed_tested p r ei grade answer t
+tested (prints b text) t = prints_tested b text t
 
 pub all_tested : (cs : List Case) → T (agree cs) → EveryRowHolds cs
 unfolding agree

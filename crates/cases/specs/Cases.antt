@@ -13,6 +13,8 @@ use Rattle.layers.specs.Layers.{ei_sum, printed_ei}
 use Rattle.ratings.specs.Answers.{rei_grade}
 use Rattle.planing.specs.declared.Cut.{Cut}
 use Rattle.planing.specs.Answers.{planing_of}
+use Rattle.record.specs.Refusals.{record_refusal}
+use Rattle.fire_card.specs.Printed.{printed_text}
 
 pub data Case : Type 0 where
   -- a definition gives a number: what it gives, and what the document says
@@ -35,6 +37,8 @@ pub data Case : Type 0 where
   rated : Panel → ℕ → ℕ → ℕ → Case
   -- the same, and this is the least cut that lowers the REI grade, or none does
   planed : Panel → ℕ → ℕ → ℕ → Option Cut → Case
+  -- the bytes of a record are accepted, and exactly this text is printed for them
+  prints : List ℕ → List ℕ → Case
 
 abbrev pub Rated : Panel → ℕ → ℕ → ℕ → Type 0
 Rated p r ei grade = (panel_refusal p ≡ 0) × ((printed_load p ≡ r) × ((printed_ei p ≡ ei) × ((rei_grade p).minutes ≡ grade)))
@@ -52,6 +56,7 @@ Holds (adds_up p n) = (panel_refusal p ≡ 0) × (ei_sum p ≡ n)
 Holds (separates p minute) = (panel_refusal p ≡ 0) × (printed_ei p ≡ minute)
 Holds (rated p r ei grade) = Rated p r ei grade
 Holds (planed p r ei grade answer) = Rated p r ei grade × (planing_of p ≡ answer)
+Holds (prints b text) = (record_refusal b ≡ 0) × (printed_text b ≡ text)
 
 -- every row of a table holds
 abbrev pub EveryRowHolds : List Case → Type 0

@@ -1,7 +1,7 @@
 -- Cases worked through further, by hand: of document 01's "Charring" what its starred lines leave out, with the phases; and of document
 -- 02 panels behind wood-based boards, walls with a fire on either face, failure times in minutes and seconds, floors charred past a
 -- bond line before their board fails, and least cuts.
-use Rattle.std.specs.Prelude.{ℕ, List, [], ◌∷◌, ◌++◌, Some, None}
+use Rattle.std.specs.Prelude.{ℕ, List, [], ◌∷◌, ◌++◌, Some, None, codes, replicate}
 use Rattle.panel.specs.declared.Cladding.{Cladding}
 use Rattle.panel.specs.declared.Cladding.TheVariants.{Unclad, One, Two}
 use Rattle.panel.specs.declared.Panel.{Panel}
@@ -12,12 +12,13 @@ use Rattle.panel.specs.Worked.{panel_with, on_face, g, g_lamellae, board_of, boa
 use Rattle.refusals.specs.Refusals.{panel_refusal}
 use Rattle.phases.specs.declared.Phase.TheVariants.{Fast, Settled}
 use Rattle.panel.specs.declared.Material.TheVariants.{Osb, ParticleBoard}
+use Rattle.record.specs.Taken.{g_bytes}
 use Rattle.record.specs.Layouts.{panel_of}
 use Rattle.record.specs.Refusals.{record_refusal}
 use Rattle.charring.specs.Depths.{char_at, micrometres_at}
 use Rattle.basic_times.specs.declared.Role.TheVariants.{Protection, Insulation}
 use Rattle.planing.specs.declared.Cut.{Cut}
-use Rattle.cases.specs.Cases.{Case, gives, bears, bears_for, failure_time, in_phase, basic, adds_up, separates, rated, planed, hundredths, hundred_thousandths}
+use Rattle.cases.specs.Cases.{Case, gives, bears, bears_for, failure_time, in_phase, basic, adds_up, separates, rated, planed, prints, hundredths, hundred_thousandths}
 
 -- Panels
 
@@ -306,5 +307,21 @@ cut_rows =
     ∷ planed (thinning 2) 60 30 30 (Some (off 2 1))
     ∷ []
 
+-- "G with M 3,000 prints exactly", with the line RS of document 02, 5/14
+abbrev pub g_card : List ℕ
+g_card =
+    codes
+    "CARD 1\nCHAR 30 19500 265\nCHAR 60 39000 460\nCHAR 90 58500 655\nCHAR 120 78000 850\nR 103 90\nRS 103:41\nEI 95 90\nREI 90\n"
+
+unfoldable pub card_rows : List Case
+card_rows =
+    -- document 01, the printed card
+    prints g_bytes g_card
+    -- document 02, 9/14: "Zero bytes now mean panel G .. and give its card. One to 20 bytes still meet refusal 1"
+    ∷ prints [] g_card
+    ∷ gives (record_refusal (0 ∷ [])) 1
+    ∷ gives (record_refusal (replicate 20 0)) 1
+    ∷ []
+
 abbrev pub further : List Case
-further = charring_rows ++ (wood_board_rows ++ (fire_rows ++ (first_run_rows ++ (rating_rows ++ cut_rows))))
+further = charring_rows ++ (wood_board_rows ++ (fire_rows ++ (first_run_rows ++ (rating_rows ++ (cut_rows ++ card_rows)))))

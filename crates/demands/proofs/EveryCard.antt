@@ -7,7 +7,7 @@ use Rattle.panel.specs.declared.Panel.{Panel}
 use Rattle.refusals.specs.Refusals.{panel_refusal}
 use Rattle.record.specs.Layouts.{panel_of}
 use Rattle.record.specs.Refusals.{record_lines, record_refusal}
-use Rattle.record.proofs.Sound.{record_panel}
+use Rattle.record.proofs.Records.{record_panel}
 use Rattle.fire_card.specs.Answers.{card_answer, card_after}
 use Rattle.fire_card.specs.Card.{text_of_card}
 use Rattle.fire_card.proofs.Prints.{printed_card}

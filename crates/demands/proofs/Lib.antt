@@ -5,3 +5,4 @@ pub mod Seconds
 pub mod Ratings
 pub mod FinerTimes
 pub mod Planing
+pub mod NoByte

@@ -9,7 +9,7 @@ use Rattle.panel.specs.declared.Panel.{Panel}
 use Rattle.refusals.specs.Refusals.{panel_refusal}
 use Rattle.refusals.proofs.FirstLine.{answered}
 use Rattle.record.specs.Layouts.{panel_of}
-use Rattle.record.proofs.Sound.{record_panel}
+use Rattle.record.proofs.Records.{record_panel}
 use Rattle.planing.specs.LeastCut.{IsLeastCut, IsPlaning}
 use Rattle.planing.specs.Answers.{planing_of}
 use Rattle.planing.proofs.CutPanels.{allowed_within}

@@ -4,3 +4,4 @@ pub mod Seconds
 pub mod Ratings
 pub mod FinerTimes
 pub mod Planing
+pub mod NoByte

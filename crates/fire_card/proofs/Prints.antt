@@ -9,7 +9,7 @@ use lib.Seq.{take_all}
 use Rattle.refusals.proofs.FirstLine.{refused, answered}
 use Rattle.record.specs.Layouts.{panel_of}
 use Rattle.record.specs.Refusals.{record_refusal}
-use Rattle.record.proofs.Sound.{too_long}
+use Rattle.record.proofs.Records.{too_long}
 use Rattle.fire_card.specs.Card.{text_of_card, refusal_text}
 use Rattle.fire_card.specs.Printed.{printed_text}
 

@@ -23,7 +23,9 @@ use Rattle.limits.proofs.Accepted.{accepted_keeps}
 use Rattle.refusals.proofs.Unused.{refusal_unused}
 use Rattle.panel.specs.Boards.{boards_of}
 use Rattle.record.specs.Layouts.{length_with, shortest, longest, version_of, front_of, count_of_boards, count_of_lamellae, encode}
-use Rattle.record.specs.Refusals.{bad_length, bad_board_count, bad_whole, byte_faults, record_refusal}
+use Rattle.record.specs.Refusals.{bad_length, bad_board_count, bad_whole, byte_faults, lines_in, record_refusal}
+use Rattle.record.specs.Taken.{taken_for}
+use Rattle.record.proofs.TakenBytes.{taken_some}
 use Rattle.record.proofs.Lengths.{front_within, length_encode}
 use Rattle.record.proofs.DecodeEncoded.{version_there, front_there, board_count_there, count_there, panel_there}
 
@@ -74,10 +76,15 @@ zero_else p e other =
     let ne = eqb-false p.version 2 other in
     k.first_face (omega (arith, k.version_least, k.version_most))
 
+-- the bytes of its record are taken for themselves
+pub taken_encode : (p : Panel) → encode p ≡ taken_for (encode p)
+taken_encode p = taken_some (encode p) (λ z. absurd (let w : ⊥ = omega (arith, length_encode p, (front_within p.version).0, z) in w))
+
 pub encode_accepted : (p : Panel) → panel_refusal p ≡ 0 → record_refusal (encode p) ≡ 0
 unfolding record_refusal panel_refusal
 encode_accepted p e =
     let count = in_range 1 9 p.count (accepted_cause p e 10) in
-    ap₂ (λ (f : ByteFaults) (q : Panel). refusal (table_lines f q)) (faultless p count.0 count.1) (panel_there p count.1 (zero_else p e))
+    sym (ap (λ (b : List ℕ). refusal (lines_in b)) (taken_encode p))
+    ∙ ap₂ (λ (f : ByteFaults) (q : Panel). refusal (table_lines f q)) (faultless p count.0 count.1) (panel_there p count.1 (zero_else p e))
     ∙ refusal_unused (cleared p) p (cleared_same p)
     ∙ e

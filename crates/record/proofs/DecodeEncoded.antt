@@ -46,7 +46,7 @@ use Rattle.record.specs.Layouts.{
   record_lamellae,
   arrays_of,
   panel_from,
-  panel_of,
+  panel_in,
   record_length,
   front_numbers,
   head_numbers,
@@ -176,8 +176,8 @@ module _ (p : Panel) where
   face_there true zero_else = refl
   face_there false zero_else = sym (zero_else refl)
 
-  pub panel_there : p.count ≤ 9 → (eqb p.version 2 ≡ false → p.face ≡ 0) → panel_of (encode p) ≡ cleared p
-  unfolding panel_of
+  pub panel_there : p.count ≤ 9 → (eqb p.version 2 ≡ false → p.face ≡ 0) → panel_in (encode p) ≡ cleared p
+  unfolding panel_in
   panel_there h zero_else =
       (λ i.
       panel_from (front_there i) (head_there i) (boards_there i) ((count_there ∙ sym (count_cleared p)) i) (arrays_of (record_lamellae_there h i)))

@@ -1,4 +1,4 @@
--- Writing what was read gives the bytes: for every accepted record, its panel's record is itself.
+-- The record of the panel that stands in bytes is these bytes, where they meet no line.
 use Prim.Native.Nat.{ℕ, zero, suc, ◌+◌, ◌*◌, ◌≤◌}
 use mathlib.Core.Path.{◌≡◌, refl, sym, ap, ap₂, ◌∙◌}
 use mathlib.Core.List.{List, ◌++◌}
@@ -33,7 +33,7 @@ use Rattle.record.specs.Layouts.{
   cladding_at,
   lamella_at,
   lamellae_in,
-  panel_of,
+  panel_in,
   front_numbers,
   head_numbers,
   board_bytes,
@@ -41,7 +41,7 @@ use Rattle.record.specs.Layouts.{
   encode,
 }
 use Rattle.record.proofs.Lengths.{lamella_bytes_more}
-use Rattle.record.proofs.Sound.{Sound, boards_counted, record_lamellae_lem}
+use Rattle.record.proofs.Sound.{Sound, boards_counted, lamellae_read}
 
 -- the bytes of the boards are those that stood after the head
 boards_back :
@@ -93,21 +93,21 @@ parts b version c n e =
     ∙ places_all b
 
 -- the numbers of the head that is written are those that were read
-head_back : (b : List ℕ) → count_of_boards b ≤ 2 → head_numbers (panel_of b) ≡ head_of b
-unfolding panel_of
+head_back : (b : List ℕ) → count_of_boards b ≤ 2 → head_numbers (panel_in b) ≡ head_of b
+unfolding panel_in
 head_back b h = rw (boards_counted (count_of_boards b) (body b) h) refl
 
-pub encode_back : (b : List ℕ) → AreBytes b → Sound b → encode (panel_of b) ≡ b
-unfolding encode panel_of
+pub encode_back : (b : List ℕ) → AreBytes b → Sound b → encode (panel_in b) ≡ b
+unfolding encode panel_in
 encode_back b h s =
     let v = version_of b in
     let c = count_of_boards b in
     let n = count_of_lamellae b in
     let t = body b in
-    let front : join (front_widths v) (front_numbers (panel_of b)) ≡ places b 0 (front_length v) =
+    let front : join (front_widths v) (front_numbers (panel_in b)) ≡ places b 0 (front_length v) =
     ap (join (front_widths v)) s.front ∙ join_fields (front_widths v) b h 0
     in
-    let head : join head_widths (head_numbers (panel_of b)) ≡ places b (front_length v) head_length =
+    let head : join head_widths (head_numbers (panel_in b)) ≡ places b (front_length v) head_length =
     ap (join head_widths) (head_back b s.boards)
     ∙ join_fields head_widths t (drop_bytes b h (front_length v)) 0
     ∙ places_drop b (front_length v) 0 head_length
@@ -116,8 +116,8 @@ encode_back b h s =
     let boards : board_bytes (boards_of (cladding_at c t)) ≡ places b ((front_length v) + head_length) (board_length * c) =
     boards_back c t (drop_bytes b h (front_length v)) s.boards ∙ places_drop b (front_length v) head_length (board_length * c)
     in
-    let lamellae : lamella_bytes (Lamellae.lamellae (panel_of b)) ≡ places b (lamella_place v c) (lamella_length * n) =
-    ap lamella_bytes (record_lamellae_lem b s.count)
+    let lamellae : lamella_bytes (Lamellae.lamellae (panel_in b)) ≡ places b (lamella_place v c) (lamella_length * n) =
+    ap lamella_bytes (lamellae_read b s.count)
     ∙ lamellae_back (lamella_part b) (drop_bytes b h (lamella_place v c)) n
     ∙ places_drop b (lamella_place v c) 0 (lamella_length * n)
     ∙ ap (λ (k : ℕ). places b k (lamella_length * n)) (add-zero (lamella_place v c))

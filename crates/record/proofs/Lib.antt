@@ -1,6 +1,9 @@
+-- What bytes are taken for.
+pub mod TakenBytes
 -- Lengths.
 pub mod Lengths
--- What an accepted record says, and that the record of an accepted panel is accepted.
+-- What the lines about a record say of it, what bytes say that meet none, and that the record of an accepted panel is accepted.
+pub mod Records
 pub mod Sound
 pub mod Accepting
 -- Both round trips.

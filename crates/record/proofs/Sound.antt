@@ -1,23 +1,20 @@
--- What an accepted record's lines say of its bytes.
+-- What bytes say that meet no line, as they are.
 use Rattle.std.proofs.lemmas.Bool.{or_parts}
-use Prim.Native.Nat.{ℕ, zero, suc, ◌≤◌, ◌<◌, min}
+use Prim.Native.Nat.{ℕ, zero, suc, ◌≤◌, min}
 use mathlib.Core.Path.{◌≡◌, refl, sym, ap, ◌∙◌}
 use mathlib.Core.List.{List, [], ◌∷◌}
 use mathlib.Core.Bool.{Bool, true, false, not}
 use native.Mathlib.Omega.{arith}
-use borrow.Author.Tests.{ltb-false, lt-ltb, le-ltb, eqb-true, not-false}
+use borrow.Author.Tests.{ltb-false, eqb-true, not-false}
 use lib.ListN.{length, get_or}
 use lib.Dec.{ltb, eqb}
-use mathlib.Core.Logic.{◌↔◌}
 use Rattle.numbers.specs.Choice.{outside}
 use Rattle.numbers.specs.Bytes.{fields}
 use Rattle.panel.specs.Lamellae.{lamellae, lamellae_of, directions_of, thicknesses_of}
 use Rattle.panel.proofs.Used.{lamellae_with}
-use Rattle.refusals.specs.Lines.{NoneFits, First}
+use Rattle.refusals.specs.Lines.{refusal}
 use Rattle.refusals.specs.Causes.{bad_count}
-use Rattle.refusals.specs.Refusals.{panel_refusal}
-use Rattle.refusals.proofs.FirstLine.{accepted_iff, refusal_first, cause_none}
-use Rattle.refusals.proofs.PanelTable.{table_accepted}
+use Rattle.refusals.proofs.FirstLine.{cause_none}
 use Rattle.numbers.proofs.Booleans.{in_range}
 use Rattle.panel.specs.Boards.{boards_of}
 use Rattle.record.specs.Layouts.{
@@ -33,33 +30,19 @@ use Rattle.record.specs.Layouts.{
   lamella_part,
   cladding_at,
   lamellae_in,
-  panel_of,
+  panel_in,
   record_length,
   front_numbers,
 }
-use Rattle.record.specs.Refusals.{bad_whole, byte_faults, record_lines, record_refusal}
+use Rattle.record.specs.Refusals.{bad_whole, lines_in}
 use Rattle.record.proofs.Lengths.{length_lamellae_in}
 
--- the bytes of an accepted record
+-- of bytes that meet no line
 pub record Sound (b : List ℕ) : Type 0 where
-  pub front : front_numbers (panel_of b) ≡ front_of b
+  pub front : front_numbers (panel_in b) ≡ front_of b
   pub boards : count_of_boards b ≤ 2
   pub count : count_of_lamellae b ≤ 9
   pub whole : length b ≡ length_with (version_of b) (count_of_boards b) (count_of_lamellae b)
-
--- a record is accepted exactly when no line about it fits, and a refusal is the first line that does
-pub record_accepted_iff : (b : List ℕ) → (record_refusal b ≡ 0) ↔ NoneFits (record_lines b)
-unfolding record_refusal
-record_accepted_iff b = accepted_iff (record_lines b) tt
-
-pub record_first : (b : List ℕ) → (record_refusal b ≡ 0 → ⊥) → First (record_lines b) (record_refusal b)
-unfolding record_refusal
-record_first b ne = refusal_first (record_lines b) ne
-
--- an input longer than any record meets line 1, whatever it says of its length
-pub too_long : (b : List ℕ) → longest < length b → record_refusal b ≡ 1
-unfolding record_refusal
-too_long b h = rw (le-ltb (length b) shortest (omega arith), lt-ltb longest (length b) h) refl
 
 -- the panel of a record with at most two boards has as many boards as the record says
 pub boards_counted : (c : ℕ) (t : List ℕ) → c ≤ 2 → length (boards_of (cladding_at c t)) ≡ c
@@ -73,11 +56,10 @@ face_told : (t : Bool) (b : List ℕ) (x y : ℕ) → only_if t (get_or (x ∷ y
 face_told true b x y = refl
 face_told false b x y = refl
 
--- an accepted record meets no line, so that its bytes are sound
-pub accepted_sound : (b : List ℕ) → record_refusal b ≡ 0 → Sound b
-unfolding record_refusal panel_of
+pub accepted_sound : (b : List ℕ) → refusal (lines_in b) ≡ 0 → Sound b
+unfolding panel_in
 accepted_sound b e =
-    let none = cause_none (record_lines b) tt e in
+    let none = cause_none (lines_in b) tt e in
     let said : ℕ = get_or (front_of b) 0 0 in
     let version = version_of b in
     let whole : ℕ = length_with version (count_of_boards b) (count_of_lamellae b) in
@@ -86,7 +68,7 @@ accepted_sound b e =
     let ten = or_parts (bad_whole b) (bad_count (count_of_lamellae b)) (none 10) in
     let same : length b ≡ whole = eqb-true (length b) whole (not-false (eqb (length b) whole) ten.0) in
     let boards : count_of_boards b ≤ 2 = ltb-false 2 (count_of_boards b) six.0 in
-    let length-said : record_length (panel_of b) ≡ said =
+    let length-said : record_length (panel_in b) ≡ said =
     ap (λ (c : ℕ). length_with version c (count_of_lamellae b)) (boards_counted (count_of_boards b) (body b) boards)
     ∙ sym same
     ∙ sym (eqb-true said (length b) (not-false (eqb said (length b)) one.1))
@@ -98,18 +80,13 @@ accepted_sound b e =
       whole = same;
     }
 
--- the lamellae of a record's panel are those of its lamella bytes
-pub record_lamellae_lem : (b : List ℕ) → count_of_lamellae b ≤ 9 → lamellae (panel_of b) ≡ lamellae_in (lamella_part b) (count_of_lamellae b)
-unfolding panel_of
-record_lamellae_lem b h =
+-- the lamellae of the panel are those of the lamella bytes
+pub lamellae_read : (b : List ℕ) → count_of_lamellae b ≤ 9 → lamellae (panel_in b) ≡ lamellae_in (lamella_part b) (count_of_lamellae b)
+unfolding panel_in
+lamellae_read b h =
     let n = count_of_lamellae b in
     let u = lamella_part b in
     let least : min n 9 ≡ n = omega arith in
     ap (λ (k : ℕ). lamellae_of (directions_of (lamellae_in u k)) (thicknesses_of (lamellae_in u k)) n) least
     ∙ ap (lamellae_of (directions_of (lamellae_in u n)) (thicknesses_of (lamellae_in u n))) (sym (length_lamellae_in u n))
-    ∙ lamellae_with (panel_of b) (lamellae_in u n)
-
--- the panel of an accepted record is accepted
-pub record_panel : (b : List ℕ) → record_refusal b ≡ 0 → panel_refusal (panel_of b) ≡ 0
-unfolding record_refusal
-record_panel b e = table_accepted (byte_faults b) (panel_of b) e
+    ∙ lamellae_with (panel_in b) (lamellae_in u n)

@@ -1,7 +1,8 @@
--- By computation: lengths and places are 01's numbers, and the bytes of panel G with M 3,000 are its record and are read as G.
+-- By computation: lengths and places are 01's numbers; the bytes of panel G with M 3,000 are its record and are read as G; and no byte is.
 -- Assumes nothing.
 use Prim.Native.Nat.{ℕ, ◌+◌, ◌*◌}
 use mathlib.Core.Path.{◌≡◌, refl}
+use mathlib.Core.List.{[]}
 use Rattle.panel.specs.Lamellae.{lamellae_of, thickness}
 use Rattle.panel.specs.Worked.{g}
 use Rattle.section.specs.Sections.{counted_from, total, lowest, highest, section_of}
@@ -16,6 +17,7 @@ use Rattle.record.specs.Layouts.{
   shortest,
   longest,
   lamellae_in,
+  panel_in,
   panel_of,
   board_bytes,
   lamella_bytes,
@@ -24,7 +26,7 @@ use Rattle.record.specs.Layouts.{
 use Rattle.record.specs.Refusals.{record_refusal}
 use Rattle.record.specs.Answers.{decode}
 use Rattle.std.specs.Prelude.{Ok}
-use Rattle.record.specs.Worked.{g_bytes}
+use Rattle.record.specs.Taken.{g_bytes, taken_for}
 
 -- Lengths and places
 
@@ -70,5 +72,19 @@ unfolding g_bytes encode board_bytes lamella_bytes lamellae_of
 g_written = refl
 
 pub g_read : decode g_bytes ≡ Ok (g 3000)
-unfolding g_bytes decode record_refusal panel_of lamellae_in some lamellae_of thickness counted_from total lowest highest section_of carries
+unfolding g_bytes taken_for decode record_refusal panel_of panel_in lamellae_in some lamellae_of thickness counted_from total lowest highest section_of carries
 g_read = refl
+
+-- No byte is an accepted record, of "panel G of document 01 with moment 3,000, face 0", and read as it
+
+pub none_panel : panel_of [] ≡ g 3000
+unfolding g_bytes taken_for panel_of panel_in lamellae_in
+none_panel = refl
+
+pub none_accepted : record_refusal [] ≡ 0
+unfolding g_bytes taken_for record_refusal panel_in lamellae_in some lamellae_of thickness counted_from total lowest highest section_of carries
+none_accepted = refl
+
+pub none_read : decode [] ≡ Ok (g 3000)
+unfolding decode
+none_read = rw (none_accepted, none_panel) refl

@@ -17,8 +17,8 @@ write_answer p space = unless_refused (write_refusal p space) (record_length p)
 unfoldable pub space_after : Panel → List ℕ → List ℕ
 space_after p space = answer (write_refusal p space) (λ (n : ℕ). space) (encode p ++ drop (record_length p) space)
 
--- Writing what was read gives the bytes: for every accepted record and every space that is long enough for it, the writer
--- answers its length and leaves it at the start of the space, the bytes after it unchanged.
-pub record WrittenBack (b space : List ℕ) : Type 0 where
-  pub answer : write_answer (panel_of b) space ≡ Ok (length b)
-  pub left : space_after (panel_of b) space ≡ b ++ drop (length b) space
+-- Writing the panel p leaves the bytes b: for a space that is long enough for them the writer answers their number and leaves them at the
+-- start of the space, the bytes after them unchanged.
+pub record WrittenAs (p : Panel) (b space : List ℕ) : Type 0 where
+  pub answer : write_answer p space ≡ Ok (length b)
+  pub left : space_after p space ≡ b ++ drop (length b) space

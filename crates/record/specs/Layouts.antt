@@ -1,5 +1,5 @@
 -- Document 01, "The panel record", and document 02, 3/14: the layout, once, as widths in bytes, from which every length and place of a
--- record follows. `panel_of` takes a record apart by it and `encode` puts one together by it. Its version decides how long the front is,
+-- record follows. `panel_in` takes a record apart by it and `encode` puts one together by it. Its version decides how long the front is,
 -- and nothing else.
 use Rattle.std.specs.Prelude.{ℕ, zero, suc, ◌+◌, ◌*◌, min, List, [], ◌∷◌, ◌++◌, Bool, true, false, eqb, length, get_or, drop}
 use Rattle.numbers.specs.Firsts.{firsts}
@@ -11,6 +11,7 @@ use Rattle.panel.specs.declared.Panel.{Panel}
 use Rattle.panel.specs.Boards.{boards_of}
 use Rattle.panel.specs.Lamellae.{Lamella, lamellae, directions_of, thicknesses_of}
 use Rattle.record.specs.declared.Lamellae.{Lamellae}
+use Rattle.record.specs.Taken.{taken_for}
 
 -- The layout
 
@@ -164,9 +165,13 @@ panel_from front vs boards n arrays =
       thicknesses = arrays.thicknesses;
     }
 
--- the panel that stands in a record
+-- the panel that stands in bytes, as they are
+unfoldable pub panel_in : List ℕ → Panel
+panel_in b = panel_from (front_of b) (head_of b) (cladding_at (count_of_boards b) (body b)) (count_of_lamellae b) (arrays_of (record_lamellae b))
+
+-- the panel of a record: that in what its bytes are taken for
 unfoldable pub panel_of : List ℕ → Panel
-panel_of b = panel_from (front_of b) (head_of b) (cladding_at (count_of_boards b) (body b)) (count_of_lamellae b) (arrays_of (record_lamellae b))
+panel_of b = panel_in (taken_for b)
 
 -- Writing: the numbers of each part, in its order, and their bytes
 

@@ -1,4 +1,4 @@
+pub mod Taken
 pub mod Layouts
 pub mod Refusals
 pub mod Answers
-pub mod Worked

@@ -6,7 +6,8 @@ use Rattle.refusals.specs.Lines.{Line, line, refusal}
 use Rattle.refusals.specs.Causes.{bad_space}
 use Rattle.refusals.specs.declared.ByteFaults.{ByteFaults}
 use Rattle.refusals.specs.Refusals.{table_lines, panel_lines}
-use Rattle.record.specs.Layouts.{length_with, shortest, longest, version_of, front_of, count_of_boards, count_of_lamellae, panel_of, record_length}
+use Rattle.record.specs.Layouts.{length_with, shortest, longest, version_of, front_of, count_of_boards, count_of_lamellae, panel_in, record_length}
+use Rattle.record.specs.Taken.{taken_for}
 
 -- 1, length: "fewer than 21 or more than 54", for either version, "or length not the bytes given"
 abbrev pub bad_length : List ℕ → Bool
@@ -24,9 +25,13 @@ bad_whole b = not (eqb (length b) (length_with (version_of b) (count_of_boards b
 abbrev pub byte_faults : List ℕ → ByteFaults
 byte_faults b = record { length = bad_length b; board_count = bad_board_count b; lamella_count = bad_whole b }
 
--- the whole table
+-- the whole table, of bytes as they are
+abbrev pub lines_in : List ℕ → List Line
+lines_in b = table_lines (byte_faults b) (panel_in b)
+
+-- of a record it is judged on what its bytes are taken for
 abbrev pub record_lines : List ℕ → List Line
-record_lines b = table_lines (byte_faults b) (panel_of b)
+record_lines b = lines_in (taken_for b)
 
 -- "A record is accepted when no line about the record itself fits": refusal 0
 unfoldable pub record_refusal : List ℕ → ℕ

@@ -4,18 +4,20 @@ ghost use Rattle.refusals.specs.Numbers.{by_number};
 ghost use Rattle.record.specs.Answers.{decode, write_answer, space_after};
 
 use crate::faults::byte_faults;
-use crate::reader::panel_of;
+use crate::reader::panel_in;
+use crate::taken::taken_for;
 use crate::writer::{put_record, record_length};
 use limits::check::Accepted;
 use panel::Panel;
 use refusals::refusal::Refusal;
 use refusals::table::check_space;
 
-// The panel that stands in a record of any length, or the refusal.
+// The panel that stands in a record of any length, or the refusal. No byte is the record of panel G.
 pub fn read(s: &[u8]) -> Result<Accepted, Refusal>
     ensures { by_number result ≡ decode s.now }
 {
-    Accepted::in_bytes(byte_faults(s), panel_of(s))
+    let record = taken_for(s);
+    Accepted::in_bytes(byte_faults(record), panel_in(record))
 }
 
 // Writes a panel's record into the lent space; answers how many bytes it has.

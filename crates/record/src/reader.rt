@@ -1,7 +1,7 @@
 // Takes a record apart by the layout. Nothing is asked of the bytes: one past the end reads as 0, and the table of refusals says
 // whether the panel stands for a record.
 ghost use Rattle.std.specs.Prelude.{◌≡◌, ◌≤◌, ◌<◌, get_or};
-ghost use Rattle.record.specs.Layouts.{version_of, front_of, body, count_of_boards, count_of_lamellae, board_at, cladding_at, lamellae_in, arrays_of, record_lamellae, panel_of};
+ghost use Rattle.record.specs.Layouts.{version_of, front_of, body, count_of_boards, count_of_lamellae, board_at, cladding_at, lamellae_in, arrays_of, record_lamellae, panel_in};
 
 use crate::layout::Layout;
 use crate::{Lamellae, layout};
@@ -106,8 +106,8 @@ fn lamellae_of(s: &[u8]) -> Lamellae
 }
 
 // The panel that stands in the bytes; its arrays are kept as they are: see `Lamellae`.
-pub(crate) fn panel_of(s: &[u8]) -> Panel
-    ensures { result ≡ panel_of s.now }
+pub(crate) fn panel_in(s: &[u8]) -> Panel
+    ensures { result ≡ panel_in s.now }
 {
     let t = body_of(s);
     let Lamellae {

@@ -1,5 +1,5 @@
 -- More than 54 bytes of an input say what the whole of it does.
-use Rattle.std.proofs.Common.{◌≡◌, ℕ, List, take, Result, Ok, Err, None, Some, IfOk, IfSome, rules, ap, ◌∙◌, lit≤}
+use Rattle.std.proofs.Common.{◌≡◌, ℕ, List, take, Result, Ok, Err, None, Some, IfOk, IfSome, [], ◌∷◌, length, rules, refl, sym, ap, ◌∙◌, arith, lit≤}
 use Rattle.std.specs.declared.option.Option.{Option}
 use Rattle.fire_card.proofs.Prints.{printed_first}
 use Rattle.fire_card.specs.Printed.{printed_text}
@@ -9,6 +9,10 @@ use Rattle.card_run.proofs.read_input.Goals as goal
 
 speaks : (bytes : List ℕ) → PrintsAsWhole ROOM bytes
 speaks bytes = λ input e. ap printed_text e ∙ printed_first input ROOM (lit≤ tt)
+
+none_taken : (left : List ℕ) → take ROOM left ≡ [] → left ≡ []
+none_taken [] e = refl
+none_taken (x ∷ xs) e = absurd (let z : 1 ≡ 0 = ap (λ (l : List ℕ). length (take 1 l)) e in let w : ⊥ = omega arith in w)
 
 module _ {A E : Type 0} (bytes : A → List ℕ) where
   speaks_if_ok : (r : Result A E) → IfOk r (λ read. PrintsAsWhole ROOM (bytes read))
@@ -23,8 +27,19 @@ module _ {A E : Type 0} (bytes : A → List ℕ) where
   speaks_for_left (Ok read) (Some left) room long h = speaks (bytes read) left (h ∙ ap (λ n. take n left) long)
   speaks_for_left (Err e) known room long h = tt
 
+  -- of an input that did not end with none some is read
+  none_for_left : (r : Result A E) (known : Option (List ℕ)) (room : ℕ) → room ≡ ROOM
+      → IfOk r (λ read. IfSome known (λ left. bytes read ≡ take room left))
+      → IfOk r (λ read. IfSome known (λ left. bytes read ≡ [] → left ≡ []))
+  none_for_left (Ok read) None room long h = tt
+  none_for_left (Ok read) (Some left) room long h = λ e. none_taken left (sym (ap (λ n. take n left) long) ∙ sym h ∙ e)
+  none_for_left (Err e) known room long h = tt
+
 pub returns-clause-any : goal.returns-clause-any
 returns-clause-any g c = search (speaks_if_ok, speaks)
 
 pub returns-clause-left : goal.returns-clause-left
 returns-clause-left g c = speaks_for_left (λ read. read.now) _ _ _ (search rules) c.read_full.ensures.front
+
+pub returns-clause-none : goal.returns-clause-none
+returns-clause-none g c = none_for_left (λ read. read.now) _ _ _ (search rules) c.read_full.ensures.front

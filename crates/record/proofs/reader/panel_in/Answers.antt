@@ -1,12 +1,12 @@
--- `record::reader::panel_of` meets its contract: field by field, by what the readers say.
+-- `record::reader::panel_in` meets its contract: field by field, by what the readers say.
 -- Assumes nothing.
 use Rattle.numbers.proofs.Words.{word_at}
-use Rattle.record.specs.Layouts.{panel_of}
+use Rattle.record.specs.Layouts.{panel_in}
 use Rattle.std.specs.Int.{w16, w32}
-use Rattle.record.proofs.reader.panel_of.Goals as goal
+use Rattle.record.proofs.reader.panel_in.Goals as goal
 
 pub returns : goal.returns
-unfolding panel_of
+unfolding panel_in
 returns c =
     let t = c.body_of-t.result.now in
     let strength = word_at w16 t 3 c.bytes_at.ensures c.from_be_bytes.ensures in
