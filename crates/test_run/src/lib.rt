@@ -2,8 +2,8 @@
 // answer begins with the same word. A line with another first word gives `unknown` and what follows. A new call is an arm below, and a
 // module where more is printed than an answer of `answers`.
 //
-// A record (HEX, in hexadecimal) stands for its panel, and a refused one for a blank panel; a raw panel (RAW) is given number by number
-// (`raw`, `panels`). Where nothing else is said, a line is answered by what its call answers, or the refusal, and by TEXT:
+// A record (HEX, in hexadecimal, `-` for no byte) stands for its panel, and a refused one for a blank panel; a raw panel (RAW) is given
+// number by number (`raw`, `panels`). Where nothing else is said, a line is answered by what its call answers, or the refusal, and by TEXT:
 //
 // - `build HEX HEX TEXT`: whether the two panels are the same build.
 // - `section DEPTH HEX TEXT`: the section at a depth in tenths of mm: N, P, Q, lo and hi and whether the depth passes.

@@ -1,4 +1,4 @@
-// `read HEX TEXT`: reads the record in hexadecimal (`-` for no bytes). Prints the refusal's number and the text. For an accepted record,
+// `read HEX TEXT`: reads the record in hexadecimal (`-` for no byte). Prints the refusal's number and the text. For an accepted record,
 // number 0, it also says whether writing the panel gives back the very bytes.
 use crate::answers::Answer;
 use panel::Panel;
