@@ -93,14 +93,17 @@ SAME = {
                   "return (refusal, -1) if refusal else written(card(panel), space_length)"): BESIDE,
 }
 
+# what bytes are taken for, in peer.py
+TAKEN = "return encode(G) if len(data) == 0 else data"
+
 # (what somebody could read, the text of peer.py, what stands there instead)
 MISREADINGS = [
-    ("zero bytes are refused", "return encode(G) if len(data) == 0 else data", "return data"),
-    ("zero bytes mean G without moment", "return encode(G) if len(data) == 0 else data", "return encode(G._replace(moment=0)) if len(data) == 0 else data"),
-    ("zero bytes mean G in version 2", "return encode(G) if len(data) == 0 else data", "return encode(G._replace(version=2)) if len(data) == 0 else data"),
-    ("zero bytes mean G with falling bond", "return encode(G) if len(data) == 0 else data", "return encode(G._replace(bond=1)) if len(data) == 0 else data"),
-    ("bytes that are all 0 mean G", "return encode(G) if len(data) == 0 else data", "return encode(G) if not any(data) else data"),
-    ("what is too short for a record means G", "return encode(G) if len(data) == 0 else data", "return encode(G) if len(data) < 21 else data"),
+    ("zero bytes are refused", TAKEN, "return data"),
+    ("zero bytes mean G without moment", TAKEN, "return encode(G._replace(moment=0)) if len(data) == 0 else data"),
+    ("zero bytes mean G in version 2", TAKEN, "return encode(G._replace(version=2)) if len(data) == 0 else data"),
+    ("zero bytes mean G with falling bond", TAKEN, "return encode(G._replace(bond=1)) if len(data) == 0 else data"),
+    ("bytes that are all 0 mean G", TAKEN, "return encode(G) if not any(data) else data"),
+    ("what is too short for a record means G", TAKEN, "return encode(G) if len(data) < 21 else data"),
     ("EI's grade and REI of a wall by its first face alone",
      "def ei_grade(panel):\n    return graded(ei_minute, panel)", "def ei_grade(panel):\n    return graded(lambda p: ei_minute(fires(p)[0]), panel)"),
     ("REI of a wall by the EI of its first face alone",

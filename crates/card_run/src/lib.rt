@@ -4,7 +4,7 @@
 
 ghost use Rattle.std.specs.Prelude.{◌≡◌, [], IfOk, IfSome};
 ghost use Rattle.fire_card.specs.Printed.{printed_text};
-ghost use Rattle.card_run.specs.Input.{PrintsAsWhole};
+ghost use Rattle.card_run.specs.Input.{PrintsAsWhole, IsPrinted};
 
 use fire_card::CARD_MOST;
 use fire_card::printed::text_for;
@@ -27,9 +27,19 @@ fn read_input<'a, R: Read>(input: &mut R, space: &'a mut [u8; ROOM]) -> io::Resu
     read_full(input, space)
 }
 
-// Hands a text to standard output. The text must be what is printed for the bytes.
-fn print(rt: &impl Print, bytes: &[u8], text: &[u8]) -> io::Result<()>
-    requires { text.now ≡ printed_text bytes.now }
+// The text that is printed for what an input holds. Where it could not be read there is none.
+fn text_of<'a, R: Read>(input: &mut R, space: &'a mut [u8; CARD_MOST]) -> io::Result<&'a [u8]>
+    ensures any { IfOk result (λ text. IsPrinted text.now) }
+    ensures left { IfOk result (λ text. IfSome (R.remaining input.old) (λ left. text.now ≡ printed_text left)) }
+{
+    let mut bytes = [0u8; ROOM];
+    let record = read_input(input, &mut bytes)?;
+    Ok(text_for(record, space))
+}
+
+// Hands a text to standard output. It must be what is printed for some bytes.
+fn print(rt: &impl Print, text: &[u8]) -> io::Result<()>
+    requires { IsPrinted text.now }
 {
     rt.write_all(text)
 }
@@ -53,11 +63,9 @@ pub fn print_card<R: Read>(
     name: &str,
     input: &mut R,
 ) -> Result<(), ExitCode> {
-    let mut bytes = [0u8; ROOM];
-    let record = read_input(input, &mut bytes).map_err(|error| unread(rt, name, error))?;
     let mut space = [0u8; CARD_MOST];
-    let text = text_for(record, &mut space);
-    print(rt, record, text).map_err(|error| unwritten(rt, error))
+    let text = text_of(input, &mut space).map_err(|error| unread(rt, name, error))?;
+    print(rt, text).map_err(|error| unwritten(rt, error))
 }
 
 // The whole of the program `card`.

@@ -21,9 +21,13 @@ pub printed_refusal : (b : List ℕ) (n : ℕ) → n ≡ record_refusal b → (n
 unfolding printed_text
 printed_refusal b n e ne = ap refusal_text e ∙ refused (record_refusal b) refusal_text (text_of_card (panel_of b)) (λ z. ne (e ∙ z))
 
--- every input longer than 54 bytes has the same text
+-- bytes that meet line 1, the length
+pub printed_for_length : (b : List ℕ) → record_refusal b ≡ 1 → printed_text b ≡ refusal_text 1
+printed_for_length b e = sym (printed_refusal b 1 (sym e) (λ z. absurd (let w : ⊥ = omega arith in w)))
+
+-- and so every input longer than 54 bytes
 pub printed_long : (b : List ℕ) → 54 < length b → printed_text b ≡ refusal_text 1
-printed_long b h = sym (printed_refusal b 1 (sym (too_long b h)) (λ z. absurd (let w : ⊥ = omega arith in w)))
+printed_long b h = printed_for_length b (too_long b h)
 
 -- so that the first bytes of an input say what the whole of it does, if they are more than 54
 pub printed_first : (b : List ℕ) (n : ℕ) → 54 < n → printed_text (take n b) ≡ printed_text b

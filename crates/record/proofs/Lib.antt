@@ -2,9 +2,9 @@
 pub mod TakenBytes
 -- Lengths.
 pub mod Lengths
--- What the lines about a record say of it, what bytes say that meet none, and that the record of an accepted panel is accepted.
-pub mod Records
+-- What bytes say that meet no line, what the lines about a record say of it, and that the record of an accepted panel is accepted.
 pub mod Sound
+pub mod Records
 pub mod Accepting
 -- Both round trips.
 pub mod DecodeEncoded

@@ -1,23 +1,19 @@
 -- What the lines about a record say: of what its bytes are taken for, and of the bytes given.
-use Rattle.std.proofs.lemmas.Bool.{or_parts}
 use Prim.Native.Nat.{ℕ, ◌≤◌, ◌<◌}
 use mathlib.Core.Path.{◌≡◌, refl}
 use mathlib.Core.List.{List, [], ◌∷◌}
 use mathlib.Core.Logic.{◌↔◌, ◌⊎◌, inl, inr}
-use mathlib.Core.Bool.{not}
 use native.Mathlib.Omega.{arith}
 use borrow.Author.Tests.{lt-ltb, le-ltb}
-use lib.ListN.{length, get_or}
-use lib.Dec.{eqb}
-use Rattle.numbers.specs.Choice.{outside}
-use Rattle.numbers.proofs.Booleans.{in_range}
-use Rattle.refusals.specs.Lines.{NoneFits, First, refusal}
+use lib.ListN.{length}
+use Rattle.refusals.specs.Lines.{NoneFits, First}
 use Rattle.refusals.specs.Refusals.{panel_refusal}
-use Rattle.refusals.proofs.FirstLine.{accepted_iff, refusal_first, cause_none}
+use Rattle.refusals.proofs.FirstLine.{accepted_iff, refusal_first}
 use Rattle.refusals.proofs.PanelTable.{table_accepted}
 use Rattle.record.specs.Taken.{taken_for}
-use Rattle.record.specs.Layouts.{shortest, longest, front_of, panel_of}
-use Rattle.record.specs.Refusals.{byte_faults, lines_in, record_lines, record_refusal}
+use Rattle.record.specs.Layouts.{shortest, longest, panel_of}
+use Rattle.record.specs.Refusals.{byte_faults, record_lines, record_refusal}
+use Rattle.record.proofs.Sound.{accepted_sound}
 
 -- a record is accepted exactly when no line about it fits, and a refusal is the first line that does
 pub record_accepted_iff : (b : List ℕ) → (record_refusal b ≡ 0) ↔ NoneFits (record_lines b)
@@ -35,17 +31,11 @@ record_panel b e = table_accepted (byte_faults (taken_for b)) (panel_of b) e
 
 -- Lengths
 
--- bytes that meet no line are 21 to 54
-within : (b : List ℕ) → refusal (lines_in b) ≡ 0 → (21 ≤ length b) × (length b ≤ 54)
-within b e =
-    in_range shortest longest (length b)
-    (or_parts (outside shortest longest (length b)) (not (eqb (get_or (front_of b) 0 0) (length b))) (cause_none (lines_in b) tt e 1)).0
-
 -- an accepted record is empty, or has 21 to 54 bytes
 pub accepted_length : (b : List ℕ) → record_refusal b ≡ 0 → (b ≡ []) ⊎ ((21 ≤ length b) × (length b ≤ 54))
 unfolding record_refusal taken_for
 accepted_length [] e = inl refl
-accepted_length (x ∷ xs) e = inr (within (x ∷ xs) e)
+accepted_length (x ∷ xs) e = inr (accepted_sound (x ∷ xs) e).within
 
 -- "One to 20 bytes still meet refusal 1"
 pub too_short : (b : List ℕ) → 1 ≤ length b → length b ≤ 20 → record_refusal b ≡ 1

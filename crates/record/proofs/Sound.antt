@@ -39,6 +39,7 @@ use Rattle.record.proofs.Lengths.{length_lamellae_in}
 
 -- of bytes that meet no line
 pub record Sound (b : List ℕ) : Type 0 where
+  pub within : (shortest ≤ length b) × (length b ≤ longest)
   pub front : front_numbers (panel_in b) ≡ front_of b
   pub boards : count_of_boards b ≤ 2
   pub count : count_of_lamellae b ≤ 9
@@ -74,6 +75,7 @@ accepted_sound b e =
     ∙ sym (eqb-true said (length b) (not-false (eqb said (length b)) one.1))
     in
     record {
+      within = in_range shortest longest (length b) one.0;
       front = λ i. length-said i ∷ version ∷ face_told (eqb version 2) b said version i;
       boards = boards;
       count = (in_range 1 9 (count_of_lamellae b) ten.1).1;

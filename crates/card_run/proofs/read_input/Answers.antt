@@ -1,4 +1,4 @@
--- More than 54 bytes of an input say what the whole of it does.
+-- More than 54 bytes of an input say what the whole of it does, and of one that did not end with none some are read.
 use Rattle.std.proofs.Common.{◌≡◌, ℕ, List, take, Result, Ok, Err, None, Some, IfOk, IfSome, [], ◌∷◌, length, rules, refl, sym, ap, ◌∙◌, arith, lit≤}
 use Rattle.std.specs.declared.option.Option.{Option}
 use Rattle.fire_card.proofs.Prints.{printed_first}
@@ -19,27 +19,23 @@ module _ {A E : Type 0} (bytes : A → List ℕ) where
   speaks_if_ok (Ok read) = speaks (bytes read)
   speaks_if_ok (Err e) = tt
 
-  -- what is known to be left in the reader is such an input
-  speaks_for_left : (r : Result A E) (known : Option (List ℕ)) (room : ℕ) → room ≡ ROOM
+  -- what is known to be left in the reader is such an input: what then holds of it and of the bytes read
+  holds_of_left : (Q : List ℕ → List ℕ → Type 0) → ((read left : List ℕ) → read ≡ take ROOM left → Q read left)
+      → (r : Result A E) (known : Option (List ℕ)) (room : ℕ) → room ≡ ROOM
       → IfOk r (λ read. IfSome known (λ left. bytes read ≡ take room left))
-      → IfOk r (λ read. IfSome known (λ left. printed_text (bytes read) ≡ printed_text left))
-  speaks_for_left (Ok read) None room long h = tt
-  speaks_for_left (Ok read) (Some left) room long h = speaks (bytes read) left (h ∙ ap (λ n. take n left) long)
-  speaks_for_left (Err e) known room long h = tt
-
-  -- of an input that did not end with none some is read
-  none_for_left : (r : Result A E) (known : Option (List ℕ)) (room : ℕ) → room ≡ ROOM
-      → IfOk r (λ read. IfSome known (λ left. bytes read ≡ take room left))
-      → IfOk r (λ read. IfSome known (λ left. bytes read ≡ [] → left ≡ []))
-  none_for_left (Ok read) None room long h = tt
-  none_for_left (Ok read) (Some left) room long h = λ e. none_taken left (sym (ap (λ n. take n left) long) ∙ sym h ∙ e)
-  none_for_left (Err e) known room long h = tt
+      → IfOk r (λ read. IfSome known (Q (bytes read)))
+  holds_of_left Q holds (Ok read) None room long h = tt
+  holds_of_left Q holds (Ok read) (Some left) room long h = holds (bytes read) left (h ∙ ap (λ n. take n left) long)
+  holds_of_left Q holds (Err e) known room long h = tt
 
 pub returns-clause-any : goal.returns-clause-any
 returns-clause-any g c = search (speaks_if_ok, speaks)
 
 pub returns-clause-left : goal.returns-clause-left
-returns-clause-left g c = speaks_for_left (λ read. read.now) _ _ _ (search rules) c.read_full.ensures.front
+returns-clause-left g c =
+    holds_of_left (λ read. read.now) (λ read left. printed_text read ≡ printed_text left) speaks _ _ _ (search rules) c.read_full.ensures.front
 
 pub returns-clause-none : goal.returns-clause-none
-returns-clause-none g c = none_for_left (λ read. read.now) _ _ _ (search rules) c.read_full.ensures.front
+returns-clause-none g c =
+    holds_of_left (λ read. read.now) (λ read left. read ≡ [] → left ≡ []) (λ read left e none. none_taken left (sym e ∙ none)) _ _ _ (search rules)
+    c.read_full.ensures.front
