@@ -67,11 +67,15 @@ static Section section_at(const Panel *p, uint64_t depth)
     return s;
 }
 
-static bool section_passes(uint32_t moment, uint16_t strength, Section s)
+static bool is_lvl(const Panel *p) { return p->bond == 2; }
+
+static uint64_t factor_of(const Panel *p) { return is_lvl(p) ? 22 : 23; }
+
+static bool section_passes(uint64_t factor, uint32_t moment, uint16_t strength, Section s)
 {
     uint64_t e = larger(s.p - 2 * s.n * s.lo, 2 * s.n * s.hi - s.p);
     uint64_t w = 4 * s.n * s.q - 3 * s.p * s.p;
-    return 0 < s.n && UINT64_C(120000) * moment * e <= UINT64_C(23) * strength * w;
+    return 0 < s.n && UINT64_C(120000) * moment * e <= factor * strength * w;
 }
 
 /* ---- the section carried from depth to depth */
@@ -138,13 +142,14 @@ static void deeper(const Panel *p, Carried *c)
 /* The last depth, at most `bottom`, to which every depth passes. Where N stays the section does, and is not tested again. */
 static uint64_t last_passing(const Panel *p, uint64_t bottom)
 {
+    uint64_t factor = factor_of(p);
     uint32_t moment = p->moment;
     uint16_t strength = p->strength;
     Carried c = {section_at(p, 0), 0, 0, 0, 0};
     while (c.depth < bottom) {
         uint64_t n = c.section.n;
         deeper(p, &c);
-        if (c.section.n != n && !section_passes(moment, strength, c.section))
+        if (c.section.n != n && !section_passes(factor, moment, strength, c.section))
             return c.depth - 1;
     }
     return c.depth;
@@ -210,7 +215,7 @@ static int read_record(const uint8_t *b, size_t length, Panel *p)
     p->moment = number(b + 8, 4);
     p->boards = b[12];
     p->failure_time = number(b + 13, 4);
-    if (1 < p->bond || 1 < p->gap)
+    if (2 < p->bond || 1 < p->gap)
         return 3;
     if (p->rate < 50 || 100 < p->rate)
         return 4;
@@ -233,20 +238,23 @@ static int read_record(const uint8_t *b, size_t length, Panel *p)
     if (p->count < 1 || 9 < p->count || length != 18 + more + 4 * p->boards + 3 * p->count)
         return 10;
     uint32_t sum = 0;
-    bool bad = false, along = false;
+    bool bad = false, across = false, along = false;
     for (size_t i = 0; i < p->count; i++, at += 3) {
         uint16_t thickness = (uint16_t)number(at + 1, 2);
         p->directions[i] = at[0];
         p->thicknesses[i] = thickness;
         bad |= 1 < at[0] || thickness < 100 || 600 < thickness;
+        across |= at[0] == 0;
         along |= at[0] == 1;
         sum += thickness;
     }
     if (bad || 4000 < sum)
         return 11;
+    if (is_lvl(p) && (across || p->rate != 65))
+        return 17;
     if (!along)
         return 12;
-    return section_passes(p->moment, p->strength, section_at(p, 0)) ? 0 : 13;
+    return section_passes(factor_of(p), p->moment, p->strength, section_at(p, 0)) ? 0 : 13;
 }
 
 static Panel turned(const Panel *p)
@@ -280,6 +288,20 @@ static uint64_t passed_end(const Panel *p, uint64_t deep, uint64_t intact)
     return end;
 }
 
+/* One more than the last rate that is too low, found by halving. */
+static uint64_t thin_rate(uint64_t thickness)
+{
+    uint64_t last = 0, enough = 100;
+    while (last + 1 < enough) {
+        uint64_t n = last + (enough - last) / 2;
+        if (n * n * thickness < 65 * 65 * 200)
+            last = n;
+        else
+            enough = n;
+    }
+    return last + 1;
+}
+
 static CharringValues fire_of(const Panel *p)
 {
     const uint64_t fast_run = UINT64_C(25000000000);
@@ -289,8 +311,9 @@ static CharringValues fire_of(const Panel *p)
         total += p->thicknesses[i];
     f.start = charring_start(p);
     f.failure = is_f(p) ? p->failure_time : f.start;
-    f.slow = k2 * p->rate;
-    f.plain = UINT64_C(10000) * p->rate;
+    uint64_t rate = is_lvl(p) && total < 200 ? thin_rate(total) : p->rate;
+    f.slow = k2 * rate;
+    f.plain = UINT64_C(10000) * rate;
     f.depth = f.slow * (f.failure - f.start);
     f.end = p->boards == 0 ? 0 : f.start == f.failure ? smaller(2 * f.plain * f.failure, fast_run) : fast_run;
     f.end = passed_end(p, f.depth, f.end);

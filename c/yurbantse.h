@@ -7,6 +7,10 @@
    failure time in thousandths of a minute. There is no board, one or two of gypsum (types A, F and H), or one of OSB (O) or particle
    board (P).
 
+   The byte for the bond says what the panel is made of: 0 is CLT whose bond between lamellae holds in a fire, 1 CLT whose bond falls, 2 LVL,
+   laminated veneer lumber. Of LVL all lamellae lie along and the record gives rate 65. An LVL panel that is thinner than 20.0 mm in all chars
+   faster than that, at the least whole rate n with n*n*h >= 65*65*200 for its thickness h in tenths of mm; its record gives 65 all the same.
+
    No byte at all, `bytes_length` 0, is a record too, so that pressing start shows whether the unit is alive. It means panel G, 30 mm along, 40
    across, 30 along, strength 24.0 N/mm2, rate 0.65 mm/min, no boards, bond that holds, moment 3,000 N·m, in version 1: the functions answer
    what they answer to its 27 bytes. So whoever could not read a record must not call: a length of 0 that stands for a failed read gets
@@ -18,8 +22,8 @@
    - `out` shares no byte with `bytes`, and nothing else writes either before the call returns.
    The functions keep nothing, allocate nothing and call only memcpy and memset. Two threads may call them at once on different spaces.
 
-   Stack, from the call on, without what memcpy and memset use: a card takes at most 2,447 bytes, the least cut 2,511, a refusal
-   104 (read off the machine code and tried on a painted stack, by bench/stack.py). Constants: 6,525 bytes, read only. */
+   Stack, from the call on, without what memcpy and memset use: a card takes at most 2,446 bytes, the least cut 2,510, a refusal
+   104 (read off the machine code and tried on a painted stack, by bench/stack.py). Constants: 6,449 bytes, read only. */
 #ifndef YURBANTSE_H
 #define YURBANTSE_H
 
@@ -32,7 +36,7 @@ extern "C" {
 
 /* The text that this header was written for: document 01 with the requests of document 02 from the first to this one. Hold the library to it
    once: yurbantse_version() == YURBANTSE_VERSION. */
-#define YURBANTSE_VERSION 9
+#define YURBANTSE_VERSION 10
 
 /* The last request that is in the library. */
 uint32_t yurbantse_version(void);
@@ -48,12 +52,13 @@ uint32_t yurbantse_version(void);
    Answers the number of bytes written; what `out` held after them stays. Or answers minus the number of the refusal, and `out` is as it
    was, every byte of it:
 
-     -1 length          -4 rate               -7 board types     -10 lamella count                       -13 section: depth 0 fails
-     -2 version         -5 strength, moment   -8 board numbers   -11 lamella direction, thickness, sum   -14 `out` too short
-     -3 bond, gap       -6 board count        -9 failure time    -12 no lamella along                    -16 face
+     -1 length       -5 strength, moment   -9 failure time                         -13 section: depth 0 fails
+     -2 version      -6 board count        -10 lamella count                       -14 `out` too short
+     -3 bond, gap    -7 board types        -11 lamella direction, thickness, sum   -16 face
+     -4 rate         -8 board numbers      -12 no lamella along                    -17 LVL: a lamella across, or a rate other than 65
 
-   The first of these that fits is answered, -16 being looked at after -2 and -14 last, so only where the record is accepted. Space for
-   exactly the card is enough. */
+   The first of these that fits is answered, -16 being looked at after -2, -17 after -11, and -14 last, so only where the record is accepted.
+   Space for exactly the card is enough. */
 int32_t yurbantse_card(const uint8_t *bytes, size_t bytes_length, uint8_t *out, size_t out_length);
 
 /* Writes the line `REFUSED n` with its line feed into `out` and answers its bytes, 10 to 12; or answers -14 where `out` is shorter than

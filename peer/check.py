@@ -8,10 +8,10 @@ from itertools import chain
 
 import peer
 import random_records
-from make_cases import (A, ALONG, F, G, H, LONGEST, O, P, RECOVERS, SHORTEST, SWITCHING, WALL, behind, clad, crossed, faced, falls, load_panels,
-                        one, patched, plate, reading_cases, second_panels, second_walls, two, wall_panels, with_first_lamella,
-                        with_length)
-from peer import Board, EACH_ALONE, FIRST_FACE, LAST_FACE
+from make_cases import (A, F, G, H, LONGEST, LVL_FLOOR, LVL_THIN, O, P, RECOVERS, SHORTEST, SWITCHING, WALL, behind, clad, crossed, faced, falls,
+                        load_panels, lvl, lvl_accepted, lvl_faces, one, patched, plate, reading_cases, second_panels, second_walls, two,
+                        wall_panels, with_first_lamella, with_length)
+from peer import ACROSS, ALONG, Board, EACH_ALONE, FIRST_FACE, LAST_FACE
 from random_records import greatest_moment
 
 ROLES = ("protection", "insulation")
@@ -88,7 +88,7 @@ def check_versions():
         record = peer.encode(panel) + bytes(2)
         same([peer.decode(with_length(record[:length]))[0] for length in (20, 21, 28, 29, 30, 52, 53, 54, 55)], refusals)
     same([peer.decode(patched(g2, at, byte))[0] for at, byte in ((2, 0), (2, 3), (3, 3), (3, 255))], [2, 2, 16, 16])
-    same([peer.panel_refusal(G._replace(version=version, face=face, bond=2)) for version, face in
+    same([peer.panel_refusal(G._replace(version=version, face=face, bond=3)) for version, face in
           ((0, 3), (3, 0), (1, 1), (1, 2), (2, 3), (1, 0), (2, 2))], [2, 2, 16, 16, 16, 3, 3])
     same([peer.same_build(G, other) for other in (faced(G, 0)._replace(moment=0), faced(G, 1), faced(G, 2))], [True, False, False])
 
@@ -97,6 +97,29 @@ def check_no_byte():
     """Document 02, 9/14: G's card and record for no byte; one to 20 bytes meet 1."""
     same((peer.text_lines(b""), peer.encode(peer.decode(b"")[1])), (PRINTED, peer.encode(G)))
     same({peer.decode(bytes([byte]) * length) for byte in (0, 255) for length in range(1, 21)}, {(1, peer.BLANK)})
+
+
+def check_lvl():
+    """Document 02, 10/14: by hand, 15.0 mm are 75² · 150 < 65² · 200 <= 76² · 150, and 20.0 mm of f 240 carry 22 · 240 · 200² / 120,000 N·m."""
+    for thickness in range(100, 602):
+        rate = peer.charring_rate(lvl(thickness))
+        assert rate == 65 if thickness >= 200 else (rate - 1) ** 2 * thickness < 845_000 <= rate ** 2 * thickness, thickness
+    same([peer.charring_rate(lvl(*lamellae)) for lamellae in ((100,), (150,), (199,), (200,), (150, 150), (100, 100))], [92, 76, 66, 65, 65, 65])
+    same([peer.charring_rate(lvl(150, bond=bond, rate=50)) for bond in (0, 1)], [50, 50])
+    same([peer.panel_refusal(lvl(200, moment=moment)) for moment in (1_760, 1_761)], [0, 13])
+    same([peer.panel_refusal(lvl(200, moment=moment, bond=0)) for moment in (1_840, 1_841)], [0, 13])
+    same((peer.exact_failure(LVL_FLOOR), peer.load_time(LVL_FLOOR), peer.ei_sum(LVL_FLOOR)), (Fraction(654, 13), (50, 18), 61_035))
+    same((peer.exact_failure(LVL_THIN), peer.load_time(LVL_THIN)), (Fraction(1_130, 111), (10, 10)))
+    same([peer.char(panel, 60)[0] for panel in (LVL_FLOOR, falls(LVL_FLOOR, 65))], [39, 48])
+    same(peer.char(behind(LVL_THIN, (A, 90)), 12), (Fraction(1_216, 1_000), ("fast", 1_702_400)))
+    same([peer.panel_refusal(panel) for panel in (
+        lvl(lamellae=((ACROSS, 300),)), lvl(300, rate=66), lvl(150, rate=76), lvl(300, rate=40), lvl(lamellae=((ACROSS, 99),)), lvl(300, bond=3))],
+        [17, 17, 17, 4, 11, 3])
+    same([peer.exact_failure(panel) for panel in (lvl(200, moment=100), lvl(199, moment=100))], [Fraction(76, 5), Fraction(1_510, 101)])
+    for panel, text in chain(lvl_accepted(), lvl_faces()):
+        same((peer.panel_refusal(panel), text), (0, text))
+        same(peer.decode(peer.encode(panel)), (0, panel))
+        peer.check_load_minute(panel)
 
 
 def depths(panel):
@@ -195,6 +218,7 @@ if __name__ == "__main__":
     check_wood_boards()
     check_versions()
     check_no_byte()
+    check_lvl()
     check_readings()
     check_walls()
     check_parts(10 * count)

@@ -49,7 +49,7 @@ def partner(rng, record):
     if way == 1:
         return peer.encode(panel._replace(strength=rng.randint(1, 400), moment=0))
     if way == 2:
-        number = rng.choice([("bond", 1 - panel.bond), ("rate", rng.randint(50, 100)), ("gap", 1 - panel.gap),
+        number = rng.choice([("bond", rng.choice([bond for bond in (0, 1, 2) if bond != panel.bond])), ("rate", rng.randint(50, 100)), ("gap", 1 - panel.gap),
                              ("failure_time", panel.failure_time + 1)])
         return peer.encode(panel._replace(**dict([number])))
     if way == 3:

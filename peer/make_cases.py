@@ -10,12 +10,11 @@ from itertools import accumulate
 import needs
 import peer
 import programs
-from peer import EACH_ALONE, FIRST_FACE, LAST_FACE, Board, G, Panel
+from peer import ACROSS, ALONG, EACH_ALONE, FIRST_FACE, LAST_FACE, LVL, Board, G, Panel
 from programs import raw
 from random_records import greatest_moment, with_lamella, with_layer_at_switch
 
 A, F, H, O, P = b"AFHOP"
-ACROSS, ALONG = 0, 1
 
 # ---------------------------------------------------------------- Panels
 
@@ -86,7 +85,7 @@ lamella_count_at = 17  # in a record without boards
 def panel_cases():
     """(panel, text): panels that a record can hold, whether accepted or refused."""
     yield G, "G"
-    for bond in (1, 2, 255):
+    for bond in (1, 3, 255):
         yield G._replace(bond=bond), f"bond {bond}"
     for gap in (1, 2, 255):
         yield G._replace(gap=gap), f"gap {gap}"
@@ -108,6 +107,7 @@ def panel_cases():
     yield from wood_board_cases()
     yield from failure_time_cases()
     yield from lamella_cases()
+    yield from lvl_cases()
 
 
 def board_cases():
@@ -176,6 +176,72 @@ def lamella_cases():
     yield LONGEST, "the longest record"
     yield RECOVERS, "the panel that recovers"
     yield G._replace(lamellae=((ALONG, 444),) * 9, strength=400, moment=1_000_000), "nine along, moment 1,000,000"
+
+
+def lvl(*thicknesses, **more):
+    """Bare LVL of lamellae along, in tenths of mm, with no moment where none is given."""
+    return G._replace(**{"bond": LVL, "moment": 0, "lamellae": tuple((ALONG, thickness) for thickness in thicknesses), **more})
+
+
+# The LVL floor of two lamellae of 30.0 mm, f 400, and one thin panel.
+LVL_FLOOR = lvl(300, 300, strength=400, moment=3_000)
+LVL_THIN = lvl(150, strength=400, moment=100)
+
+
+def lvl_accepted():
+    """(panel, text): bare and behind each kind of board; β is 65 from 20.0 mm on, of the whole panel."""
+    yield LVL_FLOOR, "LVL 30.0 and 30.0, exact 654/13"
+    yield LVL_THIN, "LVL 15.0, rate 76, exact 1,130/111"
+    yield LVL_THIN._replace(bond=0), "CLT 15.0, rate 65"
+    yield lvl(150, 150, strength=400, moment=100), "LVL 15.0 and 15.0, rate 65"
+    yield lvl(100, strength=400, moment=100), "LVL 10.0, rate 92"
+    yield lvl(199, strength=400, moment=1_000), "LVL 19.9, rate 66"
+    yield lvl(200, strength=400, moment=1_000), "LVL 20.0, rate 65"
+    for boards, failure_time in ((((A, 125),), 0), (((H, 90),), 0), (((F, 125),), 41_000), (((A, 125), (H, 95)), 0),
+                                 (((F, 125), (F, 90)), 50_000), (((O, 200),), 0), (((P, 225),), 0)):
+        name = " over ".join(chr(kind) for kind, _ in boards)
+        for panel, text in ((LVL_FLOOR, "LVL 30.0 and 30.0"), (LVL_THIN, "LVL 15.0")):
+            yield behind(panel, *boards, failure_time=failure_time), f"{text} behind {name}"
+    yield behind(LVL_THIN, (A, 90), gap=1), "LVL 15.0 behind A, wide gap"
+    yield behind(lvl(120, 150, 400, strength=400, moment=2_000), (F, 125), failure_time=61_000), "LVL behind F, charred past its first lamellae at t_f"
+    yield LVL_FLOOR._replace(moment=greatest_moment(LVL_FLOOR)), "LVL 30.0 and 30.0, as much as depth 0 carries"
+    yield lvl(444, 444, 444, 444, 444, 444, 444, 444, 444, moment=100_000), "LVL, nine lamellae"
+
+
+def lvl_faces():
+    """(panel, text): in record version 2."""
+    for panel, text in ((LVL_FLOOR, "LVL 30.0 and 30.0"), (LVL_THIN, "LVL 15.0"),
+                        (lvl(200, 100, 300, strength=400, moment=2_000), "LVL 20.0, 10.0 and 30.0"),
+                        (behind(lvl(300, 120, strength=400, moment=500), (F, 125), failure_time=41_000), "LVL 30.0 and 12.0 behind F")):
+        for face in (FIRST_FACE, LAST_FACE, EACH_ALONE):
+            yield faced(panel, face), f"{text}, face {face}"
+
+
+def lvl_refused():
+    """(panel, text): line 17, and what comes before and after it."""
+    for place in range(3):
+        lamellae = tuple((ACROSS if place == i else ALONG, 300) for i in range(3))
+        yield lvl(lamellae=lamellae), f"LVL, lamella {place + 1} of 3 across, meets 17"
+    yield lvl(lamellae=((ACROSS, 150),)), "LVL, one lamella across, so 17 before 12"
+    for rate in (50, 64, 66, 100):
+        yield LVL_FLOOR._replace(rate=rate), f"LVL, rate {rate}, meets 17"
+    yield LVL_THIN._replace(rate=76), "LVL 15.0, its own rate in the record, meets 17"
+    yield LVL_FLOOR._replace(rate=66, moment=1_000_000), "LVL, rate 66, so 17 before 13"
+    yield lvl(lamellae=((ACROSS, 300), (ALONG, 300)), moment=1_000_000), "LVL, a lamella across, so 17 before 13"
+    yield LVL_FLOOR._replace(rate=40), "LVL, rate 40, meets 4"
+    yield LVL_FLOOR._replace(rate=101, lamellae=((ACROSS, 300),)), "LVL, rate 101 and a lamella across, meets 4"
+    yield lvl(lamellae=((ACROSS, 99),)), "LVL, a lamella of 9.9 mm across, meets 11"
+    yield lvl(lamellae=((2, 300), (ACROSS, 300))), "LVL, direction 2, meets 11"
+    yield LVL_FLOOR._replace(moment=greatest_moment(LVL_FLOOR) + 1), "LVL 30.0 and 30.0, more than depth 0 carries, meets 13"
+    yield LVL_FLOOR._replace(bond=0, moment=greatest_moment(LVL_FLOOR) + 1), "CLT of the same lamellae and load"
+    yield LVL_FLOOR._replace(bond=3), "bond 3, all along"
+
+
+def lvl_cases():
+    """(panel, text)"""
+    yield from lvl_accepted()
+    yield from lvl_faces()
+    yield from lvl_refused()
 
 
 def length_cases():
@@ -257,11 +323,11 @@ def order_cases():
     """(record, text): two faults, of which the line further up is said."""
     no_fault = one(F, failure_time=21_000)
     yield patched(g[:-1], VERSION, 3), "length and version"
-    yield patched(g, VERSION, 3, 2), "version and bond"
+    yield patched(g, VERSION, 3, 3), "version and bond"
     yield patched(g_each[:-1], FACE, 3), "length and face"
     yield patched(g_each, VERSION, 3, 3), "version and face"
-    yield patched(g_each, FACE, 3, 2), "face and bond"
-    yield patched(g, BOND, 2, 49), "bond and rate"
+    yield patched(g_each, FACE, 3, 3), "face and bond"
+    yield patched(g, BOND, 3, 49), "bond and rate"
     yield patched(g, RATE, 49, 2), "rate and gap"
     yield peer.encode(G._replace(rate=101, strength=0)), "rate and strength"
     yield peer.encode(G._replace(rate=101, moment=1_000_001)), "rate and moment"
@@ -278,7 +344,7 @@ def order_cases():
     yield peer.encode(G._replace(lamellae=((ACROSS, 500),) * 9)), "sum and none along"
     yield peer.encode(G._replace(moment=1_000_000, lamellae=((ACROSS, 300),))), "none along and section"
     yield peer.encode(G._replace(moment=1_000_000, lamellae=((ALONG, 601),))), "lamella thickness and section"
-    yield peer.encode(G._replace(bond=2, moment=43_057)), "bond and section"
+    yield peer.encode(G._replace(bond=3, moment=43_057)), "bond and section"
     yield peer.encode(clad(Board(O, 199, 100), Board(A, 89, 100))), "O beside A, both too thin"
     yield peer.encode(one(O, 401, failure_time=1)), "O too thick, given 1"
 
@@ -303,7 +369,8 @@ def version_cases():
     for count in (0, 2, 4):
         yield patched(g_each, lamella_count_at + 1, count), f"version 2, {count} lamellae counted, three there"
     for panel, text in (
-            (G._replace(bond=2), "bond 2"), (G._replace(rate=101), "rate 101"), (G._replace(strength=401), "strength 401"),
+            (G._replace(bond=3), "bond 3"), (G._replace(bond=LVL), "LVL with a lamella across"), (G._replace(rate=101), "rate 101"),
+            (G._replace(strength=401), "strength 401"),
             (two(F, A), "F over A"), (one(joint=0), "coefficient 0"), (G._replace(failure_time=1), "given 1"),
             (with_first_lamella(G, 2, 300), "direction 2"), (G._replace(lamellae=((ACROSS, 300),) * 3), "none along"),
             (TURNED._replace(moment=greatest_moment(TURNED) + 1), "depth 0 fails")):
@@ -377,6 +444,7 @@ def write_cases():
         yield space, b"", f"no byte, so G, 27 bytes into {space}"
     for panel, text in reading_cases():
         yield 64, peer.encode(panel), text
+    yield 64, peer.encode(faced(LVL_THIN, EACH_ALONE)), "LVL 15.0, whose record gives rate 65"
 
 
 def section_cases():
@@ -409,7 +477,17 @@ def section_cases():
         yield depth, peer.encode(LONGEST), f"nine lamellae at {depth:,}"
     for panel, text in reading_cases():
         yield 71, peer.encode(panel), f"{text}, at 71"
+    for panel, text in lvl_sections():
+        for depth in (0, 1, 397, 398, 399, 405, 406, 570, 571, 600):
+            yield depth, peer.encode(panel), f"{text} at {depth}"
     yield from end_cases()
+
+
+def lvl_sections():
+    """(panel, text): the last depth that carries is less deep than that of CLT."""
+    yield LVL_FLOOR, "LVL 30.0 and 30.0"
+    yield LVL_FLOOR._replace(bond=0), "CLT of the same lamellae and load"
+    yield LVL_FLOOR._replace(moment=greatest_moment(LVL_FLOOR)), "LVL 30.0 and 30.0, as much as depth 0 carries,"
 
 
 def carried_cases():
@@ -461,6 +539,10 @@ def build_cases():
             (f, f._replace(failure_time=30_001), "other failure time"),
             (f, f._replace(strength=241), "other strength"), (f, f._replace(moment=2_999), "other moment"),
             (G, G._replace(gap=1), "other gap, unclad"), (G, G._replace(bond=1), "other bond, unclad"),
+            (LVL_FLOOR, LVL_FLOOR._replace(bond=0), "LVL and CLT"), (LVL_FLOOR, LVL_FLOOR._replace(bond=1), "LVL and CLT falling"),
+            (LVL_THIN, LVL_THIN._replace(strength=240, moment=0), "LVL, other strength and moment"),
+            (LVL_THIN, LVL_THIN._replace(bond=0, rate=76), "LVL 15.0 and CLT of its rate"),
+            (LVL_THIN, lvl(151, strength=400, moment=100), "LVL 15.0 and 15.1"),
             (one(O, 250), one(O, 250, gap=1), "O, other gap"),
             (one(O, 250), one(P, 250), "O and P"), (one(A, 250), one(O, 250), "A and O of one thickness"),
             (G, one(), "no board and one"), (one(), clad_g, "one board and two"), (clad_g, G, "two boards and none"),
@@ -646,6 +728,8 @@ def layer_panel_cases():
     yield from switch_cases()
     yield from grade_sums()
     yield from wood_board_layer_cases()
+    yield from lvl_accepted()
+    yield from lvl_faces()
     yield from printed_cases()
     yield G._replace(moment=43_057), "a refused record, so a blank panel"
 
@@ -758,6 +842,25 @@ def passed_line_panels():
         yield panel._replace(bond=0), minutes[:3], f"{text}, bond holds"
 
 
+def lvl_char_cases():
+    """(panel, minutes, text): each thickness about 20.0 mm, whose char depth at 10 min shows its rate; no line matters; boards."""
+    for thickness in range(100, 202):
+        yield lvl(thickness), (10,), f"LVL {thickness / 10}"
+    yield lvl(150)._replace(bond=0), (10,), "CLT 15.0"
+    yield LVL_FLOOR, (0, 46, 47, 60, 92, 93), "LVL 30.0 and 30.0, no line at 30 mm"
+    yield falls(LVL_FLOOR, 65), (46, 47, 60), "CLT of the same lamellae, falling"
+    yield lvl(100, 100), (15, 16, 30), "LVL 10.0 and 10.0"
+    yield behind(LVL_THIN, (A, 90)), (11, 12, 20), "LVL 15.0 behind A, 2 t_f past the back face"
+    yield behind(lvl(190), (A, 90), gap=1), (2, 3, 4, 5, 20), "LVL 19.0 behind A, wide gap, fast up to 2 t_f"
+    yield behind(LVL_THIN, (F, 125), failure_time=30_000), (21, 22, 30, 31, 40), "LVL 15.0 behind F"
+    yield behind(lvl(120, 150, 400), (F, 125), failure_time=61_000), (60, 61, 70, 71, 90), "LVL behind F, past its first lamellae at t_f"
+    yield behind(lvl(150), (O, 200)), (22, 23, 30), "LVL 15.0 behind O"
+    yield behind(lvl(150), (A, 125), (H, 95)), (34, 35, 40), "LVL 15.0 behind A over H"
+    for face in (LAST_FACE, EACH_ALONE):
+        yield faced(LVL_THIN, face), (5, 10), f"LVL 15.0, face {face}"
+        yield faced(behind(lvl(300, 120), (F, 125), failure_time=41_000), face), (41, 50, 60), f"LVL 30.0 and 12.0 behind F, face {face}"
+
+
 def char_kind_cases():
     for gap, joint in ((0, "narrow"), (1, "wide")):
         yield falls(G._replace(gap=gap), 65), (45,), f"unclad, {joint}"
@@ -791,7 +894,7 @@ READING_MINUTES = {
 
 
 def printed_char_cases():
-    """(panel, minutes, text): what document 000 prints, in mm. Its 0.86 mm/min behind a wall's first line is not in document 01."""
+    """(panel, minutes, text): what documents 000 and 004 print, in mm. 000's 0.86 mm/min behind a wall's first line is not in document 01."""
     clt_180 = falls(crossed(40, 30, 40, 30, 40), 65)
     yield clt_180, (90,), "A 1.1 and A 1.3, printed 72.1 and 79.1"
     wall = falls(behind(crossed(40, 20, 20, 20, 40), (F, 125), failure_time=55_000), 63)
@@ -803,6 +906,8 @@ def printed_char_cases():
             yield falls(crossed(*lamellae), 65), (minute,), f"table 19, {name}, printed {section} left"
     for name, lamellae, _, _, section in PRINTED_WALLS:
         yield crossed(*lamellae)._replace(rate=63), (30,), f"table 16, {name}, printed {section} left"
+    for thickness, text in ((600, "example, printed 9.8"), (150, "table 1, 15 mm, printed 0.75 mm/min"), (180, "table 1, 18 mm, printed 0.70 mm/min")):
+        yield lvl(thickness), (15,), f"004, {text}"
 
 
 def char_panel_cases():
@@ -814,6 +919,7 @@ def char_panel_cases():
     for panel, text in reading_cases():
         yield panel, READING_MINUTES.get(text, ()), text
     yield from printed_char_cases()
+    yield from lvl_char_cases()
 
 
 def wall_char_cases():
@@ -851,6 +957,8 @@ def table_cases():
         if text in READING_MINUTES:
             yield 400, peer.encode(panel), text
     yield 361, peer.encode(floor(200, 200, 600)), "a line passed before t_f"
+    yield 361, peer.encode(LVL_FLOOR), "LVL 30.0 and 30.0"
+    yield 361, peer.encode(behind(LVL_THIN, (A, 90))), "LVL 15.0 behind A"
     yield 361, peer.encode(falls(one(O, 279), 65)), "O 27.9, falling"
     yield 400, peer.encode(THICK), "400 mm"
     yield 400, peer.encode(falls(LONGEST, 50)), "the longest record"
@@ -968,14 +1076,15 @@ def unstarred_cases():
 
 
 def refused_cases():
-    """(record, text): each of lines 1 to 13 and 16, and bytes that are no record."""
+    """(record, text): each of lines 1 to 13, 16 and 17, and bytes that are no record."""
     yield ONE_BYTE, "one byte"
     yield bytes(20), "20 zeros"
     yield patched(g, VERSION, 3), "version 3"
     yield patched(g_each, FACE, 3), "face 3"
     yield patched(g_each, VERSION, 0, 3), "version 0, face 3"
-    yield patched(g_each, FACE, 2, 2), "face 2, bond 2"
-    yield patched(g, BOND, 2), "bond 2"
+    yield patched(g_each, FACE, 2, 3), "face 2, bond 3"
+    yield patched(g, BOND, 3), "bond 3"
+    yield patched(g, BOND, LVL), "LVL with a lamella across"
     yield patched(g, RATE, 101), "rate 101"
     yield peer.encode(G._replace(strength=401)), "strength 401"
     yield patched(g, BOARDS, 3), "three boards counted"
@@ -1068,7 +1177,7 @@ def card_cases():
     """(record, space, text)"""
     for panel, text in load_panels():
         yield peer.encode(panel), 200, text
-    for panel, text in reading_cases():
+    for panel, text in list(reading_cases()) + list(lvl_cases()):
         yield peer.encode(panel), 200, text
     for panel, _, text in passed_line_panels():
         yield peer.encode(panel), 200, text
@@ -1086,7 +1195,7 @@ def card_cases():
 
 def refusal_cases():
     """(number, space, text)"""
-    for number in list(range(17)) + [99, 100, 255]:
+    for number in list(range(18)) + [99, 100, 255]:
         length = len(peer.refusal_text(number))
         yield number, length, f"number {number}, exact space"
     for number in (1, 9, 10, 15, 0, 255):
@@ -1099,7 +1208,7 @@ def panel_record_cases():
     """(record, text)"""
     for panel, text in load_panels():
         yield peer.encode(panel), text
-    for panel, text in reading_cases():
+    for panel, text in list(reading_cases()) + list(lvl_accepted()) + list(lvl_faces()):
         yield peer.encode(panel), text
     yield peer.encode(faced(RECOVERS, LAST_FACE)), "the panel that recovers, face 1"
     yield peer.encode(faced(behind(WALL, (A, 125)), EACH_ALONE)), "wall behind A, face 2"
@@ -1198,7 +1307,23 @@ def planing_panels():
     yield falls(behind(WALL, (F, 125), failure_time=41_000), 80), "wall behind F, falling"
     yield floor(250, 150, 200, 150, 250), "floor past its lines"
     yield behind(crossed(20, 20, 20), (O, 200)), "behind O"
+    yield from lvl_planing()
     yield layered(*(120, -120) * 4, 120, moment=900, face=EACH_ALONE, rate=100, bond=1), "nine lamellae, face 2"
+
+
+def lvl_planing():
+    """(panel, text): from 20.0 mm on a tenth off gives another rate."""
+    yield lvl(200, moment=100), "LVL 20.0, R 15, with a tenth off rate 66 and R 14"
+    yield lvl(200, moment=100, bond=0), "CLT 20.0, R 15"
+    yield lvl(201, moment=105), "LVL 20.1"
+    yield LVL_THIN, "LVL 15.0"
+    yield lvl(100, moment=10), "LVL 10.0, no cut"
+    yield LVL_FLOOR, "LVL 30.0 and 30.0"
+    yield lvl(100, 101, moment=10), "LVL 10.0 and 10.1, 20.0 mm are left"
+    for face in (FIRST_FACE, LAST_FACE, EACH_ALONE):
+        yield faced(lvl(200, 110, 250, strength=400, moment=1_500), face), f"LVL 20.0, 11.0 and 25.0, face {face}"
+    yield behind(lvl(210, moment=100), (A, 125)), "LVL 21.0 behind A"
+    yield behind(lvl(205, moment=100), (F, 125), failure_time=30_000), "LVL 20.5 behind F"
 
 
 def equal_cuts():
@@ -1256,6 +1381,8 @@ def given_panels():
     """(panel, text)"""
     yield G, "G"
     yield G._replace(bond=255), "bond 255"
+    yield G._replace(bond=3), "bond 3"
+    yield from lvl_refused()
     yield G._replace(gap=2), "gap 2"
     yield G._replace(rate=255), "rate 255"
     yield G._replace(strength=65_535), "strength 65,535"
@@ -1308,6 +1435,10 @@ FALLING = WALL._replace(bond=1, moment=3_000)
 def unused_panels():
     """(raw panel, text): the same answers with every unused place full and with every one 0."""
     yield full(G), "unused places full"
+    for panel, text in ((LVL_THIN, "LVL 15.0"), (behind(LVL_FLOOR, (A, 125)), "LVL 30.0 and 30.0 behind A")):
+        for face in (FIRST_FACE, EACH_ALONE):
+            yield full(faced(panel, face)), f"{text}, face {face}, unused places full"
+            yield raw(faced(panel, face)), f"{text}, face {face}, unused places 0"
     for face in (FIRST_FACE, LAST_FACE, EACH_ALONE):
         for boards, name in (((), "wall"), ((Board(A, 125, 100),), "wall behind A"), ((Board(A, 125, 100), Board(H, 125, 100)), "wall behind A and H")):
             wall = faced(FALLING._replace(boards=boards), face)
@@ -1316,9 +1447,9 @@ def unused_panels():
 
 
 # A number past each line's limit, in the table's order.
-FAULTS = ((2, {"version": 0}), (16, {"face": 3}), (3, {"bond": 2}), (4, {"rate": 49}), (5, {"strength": 0}), (7, {"boards": (Board(0, 125, 100),)}),
+FAULTS = ((2, {"version": 0}), (16, {"face": 3}), (3, {"bond": 3}), (4, {"rate": 49}), (5, {"strength": 0}), (7, {"boards": (Board(0, 125, 100),)}),
           (8, {"boards": (Board(A, 89, 100),)}), (9, {"failure_time": 1}), (10, {"lamellae": ()}), (11, {"lamellae": ((ALONG, 99),)}),
-          (12, {"lamellae": ((ACROSS, 300),)}), (13, {"moment": 43_057}))
+          (17, {"bond": LVL}), (12, {"lamellae": ((ACROSS, 300),)}), (13, {"moment": 43_057}))
 
 
 def minute_panels():
@@ -1356,6 +1487,11 @@ def corrected_panels():
             ("others, along", ((ALONG, 444),) * 9)):
         panel = panel._replace(lamellae=lamellae)
         yield raw(panel), f"put right up to the {text}"
+    panel = panel._replace(bond=LVL, lamellae=((ACROSS, 444),) * 9)
+    yield raw(panel), "of LVL, put right up to the sum of the thicknesses"
+    for text, right in (("others, along", {"lamellae": ((ALONG, 444),) * 9}), ("rate", {"rate": 65})):
+        panel = panel._replace(**right)
+        yield raw(panel), f"of LVL, put right up to the {text}"
 
 
 def raw_cases():
@@ -1370,7 +1506,7 @@ def raw_cases():
 
 
 # Places of a raw panel.
-RAW_VERSION, RAW_FACE, RAW_OUTER, RAW_INNER = 0, 1, programs.BOARDS_AT + 1, programs.BOARDS_AT + 5
+RAW_VERSION, RAW_FACE, RAW_BOND, RAW_RATE, RAW_OUTER, RAW_INNER = 0, 1, 2, 3, programs.BOARDS_AT + 1, programs.BOARDS_AT + 5
 RAW_COUNT = programs.COUNT_AT + 7  # its lowest byte
 
 
@@ -1384,6 +1520,9 @@ def each_cases():
             (RAW_OUTER, raw(two(A, H)), "letter over H"),
             (RAW_VERSION, raw(G), "version"),
             (RAW_FACE, raw(faced(FALLING, FIRST_FACE)), "face in version 2"),
+            (RAW_BOND, raw(lvl(120, 120)), "bond, all along"),
+            (RAW_RATE, raw(LVL_THIN), "rate of LVL"),
+            (programs.DIRECTIONS_AT + 1, raw(lvl(120, 120)), "second direction of LVL"),
             (RAW_COUNT, raw(G._replace(lamellae=((ALONG, 110), (ACROSS, 110)) * 4 + ((ALONG, 110),), moment=10)), "count"),
             (programs.DIRECTIONS_AT, raw(G), "first direction")):
         yield at, data, 60, 250, text
@@ -1400,6 +1539,8 @@ def pair_cases():
     other = G._replace(strength=400, moment=0)
     yield raw(other, unused=((ALONG, 7),) * 6), raw(G), "other strength, moment and unused places"
     yield raw(other._replace(bond=1), unused=((ALONG, 7),) * 6), raw(G), "other bond too"
+    yield full(LVL_THIN), raw(LVL_THIN._replace(moment=0)), "LVL, unused places full and 0"
+    yield full(LVL_THIN), raw(LVL_THIN._replace(bond=0)), "LVL and CLT, unused places full and 0"
     for face in (LAST_FACE, EACH_ALONE):
         yield full(faced(FALLING, face)), raw(faced(FALLING, face)), f"walls, face {face}, unused places full and 0"
     yield full(FALLING), raw(faced(FALLING, FIRST_FACE)), "versions 1 and 2, face 0"
@@ -1448,7 +1589,8 @@ CASES = {"read": record_cases, "write": write_cases, "build": build_cases,
 CARD_FILES = {"empty": b"", "one_byte": ONE_BYTE, "long": peer.encode(faced(LONGEST, FIRST_FACE)) + bytes(1),
               "refused": peer.encode(G._replace(moment=43_057)),
               "last_face": peer.encode(faced(behind(WALL, (A, 125)), LAST_FACE)),
-              "each_face": peer.encode(faced(behind(WALL, (A, 125)), EACH_ALONE)), "face_3": patched(g_each, FACE, 3)}
+              "each_face": peer.encode(faced(behind(WALL, (A, 125)), EACH_ALONE)), "face_3": patched(g_each, FACE, 3),
+              "lvl": peer.encode(LVL_FLOOR)}
 
 
 def store(path, data):

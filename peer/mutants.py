@@ -36,6 +36,7 @@ ALIKE = "type F stands alone or with F, O and P alone: either board tells"
 BESIDE = "beside a refusal no number is looked at"
 SEARCH = "another search for the same number"
 NO_MORE = "no panel was found whose layers give 325 minutes"
+AT_20 = "the rule gives 65 at 20.0 mm, which is the rate of the record"
 AT_FACE = "at a depth above the first face every lamella is whole, as at depth 0"
 SAME = {
     ("panel_refusal", "if len(panel.boards) > 2: -> pass"): NO_THIRD,
@@ -49,6 +50,10 @@ SAME = {
              "return floor(Fraction(boards[-1].thickness, 10) / Fraction(90, 100) * 1000)"): ALIKE,
     ("t_ch", "return 280 * boards[0].thickness - less -> return 280 * boards[-1].thickness - less"): "there is one board",
     ("is_type_f", "return len(boards) > 0 and boards[0].kind == TYPE_F -> return len(boards) > 0 and boards[-1].kind == TYPE_F"): ALIKE,
+    ("charring_rate", "if panel.bond == LVL and h < 200: -> if panel.bond == LVL and h <= 200:"): AT_20,
+    ("charring_rate", "if panel.bond == LVL and h < 200: -> if panel.bond == LVL and h < 201:"): AT_20,
+    ("charring_rate", "return next((n for n in count() if n ** 2 * h >= 65 ** 2 * 200)) -> "
+                      "return next((n for n in count() if n ** 2 * h > 65 ** 2 * 200))"): "65² · 200 is n² · h of no thinner panel",
     ("first_end", "if not panel.boards: -> pass"): "unclad t_ch and t_f are 0, and so is 2·t_f",
     ("first_end", "passed = [line for line in lines if line < depth] -> passed = [line for line in lines if line <= depth]"):
         "the run of a line reached at t_f starts there anyway, with the same end",
@@ -93,6 +98,13 @@ SAME = {
                   "return (refusal, -1) if refusal else written(card(panel), space_length)"): BESIDE,
 }
 
+# the rule for the rate of a thin LVL panel, and the lines about LVL and none along as a record is read, in peer.py
+THIN_RATE = "next(n for n in count() if n ** 2 * h >= 65 ** 2 * 200)"
+LVL_READ = "    if bad_lvl(panel):\n        return 17, BLANK\n"
+ALONG_READ = "    if none_along(panel.lamellae):\n        return 12, BLANK\n"
+SECTION_READ = "    if not depth_passes(panel, 0):\n        return 13, BLANK\n"
+LAMELLAE_READ = "    if bad_lamellae(panel.lamellae):\n        return 11, BLANK\n"
+
 # what bytes are taken for, in peer.py
 TAKEN = "return encode(G) if len(data) == 0 else data"
 
@@ -104,6 +116,33 @@ MISREADINGS = [
     ("zero bytes mean G with falling bond", TAKEN, "return encode(G._replace(bond=1)) if len(data) == 0 else data"),
     ("bytes that are all 0 mean G", TAKEN, "return encode(G) if not any(data) else data"),
     ("what is too short for a record means G", TAKEN, "return encode(G) if len(data) < 21 else data"),
+    ("the rate of a thin LVL panel to the nearest", THIN_RATE, "round((65 ** 2 * 200 / h) ** 0.5)"),
+    ("the rate of a thin LVL panel rounded down", THIN_RATE, "int((65 ** 2 * 200 / h) ** 0.5)"),
+    ("the rate of a thin LVL panel 65·20/h", THIN_RATE, "next(n for n in count() if n * h >= 65 * 200)"),
+    ("thin by the first lamella", "    h = thickness_of(panel.lamellae)\n    if", "    h = from_fire(panel)[0][1]\n    if"),
+    ("thin by the thinnest lamella", "    h = thickness_of(panel.lamellae)\n    if", "    h = min(h for _, h in panel.lamellae)\n    if"),
+    ("thin below 15.0 mm", "panel.bond == LVL and h < 200", "panel.bond == LVL and h < 150"),
+    ("thin CLT chars faster too", "if panel.bond == LVL and h < 200:", "if h < 200:"),
+    ("every LVL panel by the rule", "if panel.bond == LVL and h < 200:", "if panel.bond == LVL:"),
+    ("LVL has bond lines", "if panel.bond in (0, LVL):", "if panel.bond == 0:"),
+    ("LVL with the factor of CLT", "factor = 22 if panel.bond == LVL else 23", "factor = 23"),
+    ("the factor of LVL where the bond falls too", "factor = 22 if panel.bond == LVL else 23", "factor = 22 if panel.bond else 23"),
+    ("k2·β by the record's rate", "slow = k2(panel) * beta", "slow = k2(panel) * Fraction(panel.rate, 100)"),
+    ("2·t_f by the record's rate", "end = first_end(panel, depth, failure, 2 * beta)", "end = first_end(panel, depth, failure, Fraction(panel.rate, 50))"),
+    ("LVL has no zero-strength layer", "    return char(panel, minute)[0] + k0(panel, minute) * ZERO_STRENGTH",
+     "    return char(panel, minute)[0] + (panel.bond != LVL) * k0(panel, minute) * ZERO_STRENGTH"),
+    ("17 only where all lamellae lie across", "(any(direction == ACROSS", "(all(direction == ACROSS"),
+    ("17 for a greater rate alone", "panel.rate != 65", "panel.rate > 65"),
+    ("17 for a lesser rate alone", "panel.rate != 65", "panel.rate < 65"),
+    ("a thin LVL panel may give its own rate", "panel.rate != 65", "panel.rate not in (65, charring_rate(panel))"),
+    ("17 after 12", LVL_READ + ALONG_READ, ALONG_READ + LVL_READ),
+    ("17 after 13", LVL_READ + ALONG_READ + SECTION_READ, ALONG_READ + SECTION_READ + LVL_READ),
+    ("17 before 11", LAMELLAE_READ + LVL_READ, LVL_READ + LAMELLAE_READ),
+    ("LVL is written with the rate that it chars at", "bytes([panel.bond, panel.rate, panel.gap])", "bytes([panel.bond, charring_rate(panel), panel.gap])"),
+    ("LVL and CLT whose bond holds are the same build", "return a._replace(version=0, strength=0, moment=0) == b._replace(version=0, strength=0, moment=0)",
+     "return a._replace(version=0, strength=0, moment=0, bond=a.bond % 2) == b._replace(version=0, strength=0, moment=0, bond=b.bond % 2)"),
+    ("LVL insulates as OSB", "(entry(\"wood_insulation\", thicknesses[-1], parts), 100)]",
+     "(entry(\"osb_insulation\" if panel.bond == LVL else \"wood_insulation\", thicknesses[-1], parts), 100)]"),
     ("EI's grade and REI of a wall by its first face alone",
      "def ei_grade(panel):\n    return graded(ei_minute, panel)", "def ei_grade(panel):\n    return graded(lambda p: ei_minute(fires(p)[0]), panel)"),
     ("REI of a wall by the EI of its first face alone",

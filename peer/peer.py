@@ -6,14 +6,16 @@ The parts stand in the order of the document's sections.
 """
 from fractions import Fraction
 from functools import cache
+from itertools import count
 from math import ceil, floor
 from typing import NamedTuple
 
-LAST_REQUEST = 9  # of document 02
+LAST_REQUEST = 10  # of document 02
 
 # ---------------------------------------------------------------- The panel record
 
-ALONG = 1
+ACROSS, ALONG = 0, 1
+LVL = 2  # a bond of this value means laminated veneer lumber
 TYPES = b"AFHOP"
 TYPE_F = ord("F")
 WOOD_TYPES = b"OP"  # OSB and particle board
@@ -29,7 +31,7 @@ class Board(NamedTuple):
 class Panel(NamedTuple):
     version: int       # of its record, in which it is written
     face: int          # where the fire is: FIRST_FACE, LAST_FACE, or EACH_ALONE for a fire on each face alone
-    bond: int          # 0 holds, 1 falls
+    bond: int          # 0 holds, 1 falls, LVL
     rate: int          # hundredths of mm/min
     gap: int           # 0 filled or at most 2 mm, 1 wider
     strength: int      # tenths of N/mm2
@@ -43,7 +45,7 @@ class Panel(NamedTuple):
 BLANK = Panel(0, 0, 0, 0, 0, 0, 0, 0, (), ())
 # The document's panel G with moment 3,000: 30 along, 40 across, 30 along (mm).
 G = Panel(version=1, face=FIRST_FACE, bond=0, rate=65, gap=0, strength=240, moment=3_000, failure_time=0, boards=(),
-          lamellae=((ALONG, 300), (0, 400), (ALONG, 300)))
+          lamellae=((ALONG, 300), (ACROSS, 400), (ALONG, 300)))
 
 VERSION_AT = 2
 HEAD = 14  # bytes before the first board, from the bond on
@@ -104,7 +106,7 @@ def bad_face(version, face):  # 16
 
 
 def bad_switches(bond, gap):  # 3
-    return bond > 1 or gap > 1
+    return bond > LVL or gap > 1
 
 
 def bad_rate(rate):  # 4
@@ -144,12 +146,16 @@ def bad_lamellae(lamellae):  # 11
     return thickness_of(lamellae) > 4_000
 
 
+def bad_lvl(panel):  # 17
+    return panel.bond == LVL and (any(direction == ACROSS for direction, _ in panel.lamellae) or panel.rate != 65)
+
+
 def none_along(lamellae):  # 12
     return all(direction != ALONG for direction, _ in lamellae)
 
 
 def panel_refusal(panel):
-    """The first of lines 2, 16 and 3 to 13 that fits the panel, or 0. Lines 6 and 10 speak of counts only: a panel has no length."""
+    """The first of lines 2, 16, 3 to 11, 17, 12 and 13 that fits the panel, or 0. Lines 6 and 10 speak of counts only: a panel has no length."""
     if bad_version(panel.version):
         return 2
     if bad_face(panel.version, panel.face):
@@ -172,6 +178,8 @@ def panel_refusal(panel):
         return 10
     if bad_lamellae(panel.lamellae):
         return 11
+    if bad_lvl(panel):
+        return 17
     if none_along(panel.lamellae):
         return 12
     if not depth_passes(panel, 0):
@@ -185,7 +193,7 @@ def taken_for(data):
 
 
 def decode(data):
-    """(refusal, panel): refusal 0 and the panel of the record, or the first of lines 1, 2, 16 and 3 to 13 that fits and BLANK."""
+    """(refusal, panel): refusal 0 and the panel of the record, or the first of lines 1, 2, 16, 3 to 11, 17, 12 and 13 that fits and BLANK."""
     data = taken_for(data)
     if not 21 <= len(data) <= 54 or number(data, 0, 2) != len(data):
         return 1, BLANK
@@ -224,6 +232,8 @@ def decode(data):
     panel = panel._replace(lamellae=tuple(lamella_at(part, 3 * i) for i in range(count)))
     if bad_lamellae(panel.lamellae):
         return 11, BLANK
+    if bad_lvl(panel):
+        return 17, BLANK
     if none_along(panel.lamellae):
         return 12, BLANK
     if not depth_passes(panel, 0):
@@ -294,8 +304,8 @@ FAST_RUN = Fraction(25)  # mm
 
 
 def bond_lines(panel):
-    """The depths in mm, from the exposed face, at which lamellae meet; none where the bond holds."""
-    if panel.bond == 0:
+    """The depths in mm, from the exposed face, at which lamellae meet; none where the bond holds, and none of LVL."""
+    if panel.bond in (0, LVL):
         return []
     lamellae = from_fire(panel)
     return [Fraction(thickness_of(lamellae[:i]), 10) for i in range(1, len(lamellae))]
@@ -319,10 +329,18 @@ def first_end(panel, depth, failure, rate):
     return rate * (ends - failure)
 
 
+def charring_rate(panel):
+    """In hundredths of mm/min: the record's, but for a thin LVL panel the least whole number that is fast enough."""
+    h = thickness_of(panel.lamellae)
+    if panel.bond == LVL and h < 200:
+        return next(n for n in count() if n ** 2 * h >= 65 ** 2 * 200)
+    return panel.rate
+
+
 @cache
 def stages(panel):
     """What an accepted panel goes through, in the order of time; a stage ends as the next starts."""
-    beta = Fraction(panel.rate, 100)
+    beta = Fraction(charring_rate(panel), 100)
     back = Fraction(thickness_of(panel.lamellae), 10)
     start, failure = Fraction(t_ch(panel), 1_000), Fraction(t_f(panel), 1_000)
     passed = [Stage(Fraction(0), Fraction(0), Fraction(0), "untouched")]
@@ -426,7 +444,8 @@ def section(panel, depth):
     """(N, P, Q, lo, hi, passes) at a depth in whole tenths of mm."""
     n, p, q, lo, hi = sums(counted_parts(from_fire(panel), depth))
     edge = max(p - 2 * n * lo, 2 * n * hi - p)
-    carried = 120_000 * panel.moment * edge <= 23 * panel.strength * (4 * n * q - 3 * p ** 2)
+    factor = 22 if panel.bond == LVL else 23
+    carried = 120_000 * panel.moment * edge <= factor * panel.strength * (4 * n * q - 3 * p ** 2)
     return n, p, q, lo, hi, n > 0 and carried
 
 

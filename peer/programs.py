@@ -401,6 +401,8 @@ FILES = {
     "records": {
         "read": (read_line, read_answer),
         "write": (write_line, write_answer),
+    },
+    "builds": {
         "build": (build_line, build_answer),
     },
     "sections": {
@@ -423,6 +425,8 @@ FILES = {
         "load": (load_line, load_answer),
         "seconds": (seconds_line, seconds_answer),
         "reserve": (reserve_line, reserve_answer),
+    },
+    "grades": {
         "loadgrade": (panel_grade_line, panel_grade_answer(peer.load_grade)),
         "eigrade": (panel_grade_line, panel_grade_answer(peer.ei_grade)),
         "reigrade": (panel_grade_line, panel_grade_answer(peer.rei_grade)),

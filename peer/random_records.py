@@ -42,15 +42,26 @@ def greatest_moment(panel, depth=0):
     """The greatest moment at which a depth in tenths of mm passes, or 0 where there is none."""
     n, p, q, lo, hi, _ = peer.section(panel, depth)
     edge = max(p - 2 * n * lo, 2 * n * hi - p)
-    return 23 * panel.strength * (4 * n * q - 3 * p ** 2) // (120_000 * edge) if edge else 0
+    factor = 22 if panel.bond == peer.LVL else 23
+    return factor * panel.strength * (4 * n * q - 3 * p ** 2) // (120_000 * edge) if edge else 0
+
+
+def as_lvl(panel):
+    """The panel of LVL: all along, rate 65."""
+    return panel._replace(bond=peer.LVL, rate=65, lamellae=tuple((1, thickness) for _, thickness in panel.lamellae))
 
 
 def random_panel(rng):
-    """A panel within the limits, of version 1. What panels are drawn for is said of their fire on the first face; see `any_face`."""
+    """A panel within the limits, of version 1; one in four is LVL, and half of these are about or below 20.0 mm. What panels are drawn for is
+    said of their fire on the first face; see `any_face`."""
     panel = Panel(1, 0, rng.randint(0, 1), end_or_between(rng, 50, 100), rng.randint(0, 1), end_or_between(rng, 1, 400), 0, 0,
                   random_boards(rng), random_lamellae(rng))
     if peer.is_type_f(panel.boards):
         panel = panel._replace(failure_time=end_or_between(rng, peer.t_ch(panel), 360_000))
+    if rng.random() < 0.25:
+        panel = as_lvl(panel)
+        if rng.random() < 0.5:
+            panel = panel._replace(lamellae=((1, end_or_between(rng, 100, 201)),))
     return panel._replace(moment=end_or_between(rng, 0, min(1_000_000, greatest_moment(panel))))
 
 
@@ -85,7 +96,7 @@ def with_lamella(panel, i, direction, thickness):
 
 def at_a_limit(rng, panel):
     """The panel with one field at a limit or one past it."""
-    field = rng.choice(["version", "face", "bond", "gap", "rate", "strength", "moment", "carried", "failure_time", "kind", "board", "joint",
+    field = rng.choice(["version", "face", "bond", "lvl", "lvl", "gap", "rate", "strength", "moment", "carried", "failure_time", "kind", "board", "joint",
                         "lamella", "sum", "direction", "along"])
     board = rng.randrange(len(panel.boards)) if panel.boards else None
     lamella = rng.randrange(len(panel.lamellae))
@@ -94,9 +105,14 @@ def at_a_limit(rng, panel):
     if field == "face":
         return panel._replace(face=rng.choice([0, 1, 2, 3, 255]))
     if field in ("bond", "gap"):
-        return panel._replace(**{field: rng.choice([0, 1, 2, 255])})
+        return panel._replace(**{field: rng.choice([0, 1, 2, 3, 255])})
+    if field == "lvl":  # as it should be, or with one thing wrong
+        panel = as_lvl(panel)
+        changed = rng.choice([panel, panel._replace(rate=rng.choice([49, 50, 64, 66, 100, 101])),
+                              with_lamella(panel, lamella, rng.choice([0, 0, 2]), panel.lamellae[lamella][1])])
+        return changed._replace(moment=min(changed.moment, greatest_moment(changed)))
     if field == "rate":
-        return panel._replace(rate=rng.choice([0, 49, 50, 100, 101, 255]))
+        return panel._replace(rate=rng.choice([0, 49, 50, 64, 65, 66, 100, 101, 255]))
     if field == "strength":
         return panel._replace(strength=rng.choice([0, 1, 400, 401, 65535]))
     if field == "moment":
@@ -184,8 +200,8 @@ def met_at_failure(rng):
         above = thicknesses_to(rng, slow * time // 10 ** 8 - rng.choice([0, 0, 250]) + rng.choice([-1, 0, 0, 1]))
         if above is None:
             continue
-        lamellae = tuple((rng.randint(0, 1), thickness) for thickness in above) + ((1, panel.lamellae[0][1]),) + panel.lamellae[1:]
-        lamellae = lamellae[:9]
+        lamellae = tuple((rng.randint(panel.bond == peer.LVL, 1), thickness) for thickness in above)
+        lamellae = (lamellae + ((1, panel.lamellae[0][1]),) + panel.lamellae[1:])[:9]
         if peer.thickness_of(lamellae) <= 4_000:
             return panel._replace(failure_time=start + time, lamellae=lamellae)
 

@@ -2,4 +2,4 @@
 use Rattle.std.specs.Prelude.{ℕ}
 
 abbrev pub last_request : ℕ
-last_request = 9
+last_request = 10

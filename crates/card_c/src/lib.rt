@@ -14,7 +14,7 @@ use planing::search::least_cut;
 use refusals::refusal::Refusal;
 
 // Document 01 is followed with the requests of document 02 from the first to this one.
-const LAST_REQUEST: u32 = 9;
+const LAST_REQUEST: u32 = 10;
 
 // The last request that is in: for C, to hold the library to its header.
 pub fn yurbantse_version() -> u32

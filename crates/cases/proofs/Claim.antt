@@ -12,6 +12,7 @@ use Rattle.charring.specs.Depths.{char_at, effective_at}
 use Rattle.load.specs.LoadMinute.{every_from, time_test}
 use Rattle.load.specs.FailureTests.{fails_right_after}
 use Rattle.panel.specs.Boards.{material_of}
+use Rattle.panel.specs.Products.{rate_by}
 use Rattle.layers.specs.Layers.{joint_of}
 use Rattle.cases.proofs.SumsByBits.{sum_after_by_bits}
 use Rattle.cases.specs.Cases.{EveryRowHolds}
@@ -19,5 +20,5 @@ use Rattle.cases.specs.Starred.{starred}
 use Rattle.cases.proofs.Tested.{agree, all_tested}
 
 pub starred_hold : EveryRowHolds starred
-unfolding starred agree largest lamellae_of thickness counted_from total lowest highest section_of carries some panel_refusal material_of joint_of sum_after_by_bits failure_of k2 clad lines_from bond_lines line_end intact_end passed_end first_end stretches way charred char_at effective_at every_from time_test fails_right_after
+unfolding starred agree rate_by largest lamellae_of thickness counted_from total lowest highest section_of carries some panel_refusal material_of joint_of sum_after_by_bits failure_of k2 clad lines_from bond_lines line_end intact_end passed_end first_end stretches way charred char_at effective_at every_from time_test fails_right_after
 starred_hold = all_tested starred tt

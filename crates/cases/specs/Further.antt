@@ -1,12 +1,13 @@
 -- Cases worked through further, by hand: of document 01's "Charring" what its starred lines leave out, with the phases; and of document
 -- 02 panels behind wood-based boards, walls with a fire on either face, failure times in minutes and seconds, floors charred past a
--- bond line before their board fails, and least cuts.
+-- bond line before their board fails, least cuts, and LVL.
 use Rattle.std.specs.Prelude.{ℕ, List, [], ◌∷◌, ◌++◌, Some, None, codes, replicate}
 use Rattle.panel.specs.declared.Cladding.{Cladding}
 use Rattle.panel.specs.declared.Cladding.TheVariants.{Unclad, One, Two}
 use Rattle.panel.specs.declared.Panel.{Panel}
 use Rattle.panel.specs.Boards.{letter_a, letter_f, letter_o, letter_p, charring_start}
 use Rattle.panel.specs.Faces.{turned, shown}
+use Rattle.panel.specs.Products.{rate_of}
 use Rattle.panel.specs.Lamellae.{Lamella, lamella}
 use Rattle.panel.specs.Worked.{panel_with, on_face, g, g_lamellae, board_of, board125}
 use Rattle.refusals.specs.Refusals.{panel_refusal}
@@ -18,6 +19,7 @@ use Rattle.record.specs.Refusals.{record_refusal}
 use Rattle.charring.specs.Depths.{char_at, micrometres_at}
 use Rattle.basic_times.specs.declared.Role.TheVariants.{Protection, Insulation}
 use Rattle.planing.specs.declared.Cut.{Cut}
+use Rattle.planing.specs.Cuts.{cut_panel}
 use Rattle.cases.specs.Cases.{Case, gives, bears, bears_for, failure_time, in_phase, basic, adds_up, separates, rated, planed, prints, hundredths, hundred_thousandths}
 
 -- Panels
@@ -118,7 +120,33 @@ single moment = bare 0 65 moment (lamella 1 101 ∷ [])
 abbrev pub off : ℕ → ℕ → Cut
 off tenths place = record { place = place; tenths = tenths }
 
--- Rows, in six parts, since antt computes no more than so many steps at once
+-- the record, of version 1, of an LVL floor of two lamellae of 30 mm: length 24, version 1, bond 2, rate 65, gap 0, f 400, M 3,000, no
+-- boards, time 0, two lamellae
+abbrev pub lvl_floor : List ℕ
+lvl_floor = 0 ∷ 24 ∷ 1 ∷ 2 ∷ 65 ∷ 0 ∷ 1 ∷ 144 ∷ 0 ∷ 0 ∷ 11 ∷ 184 ∷ 0 ∷ 0 ∷ 0 ∷ 0 ∷ 0 ∷ 2 ∷ 1 ∷ 1 ∷ 44 ∷ 1 ∷ 1 ∷ 44 ∷ []
+
+-- the record, of version 2, of an LVL panel of one lamella of 15 mm with a fire on each face: length 22, version 2, face 2, bond 2, rate 65,
+-- gap 0, f 400, M 100, no boards, time 0, one lamella
+abbrev pub lvl_thin : List ℕ
+lvl_thin = 0 ∷ 22 ∷ 2 ∷ 2 ∷ 2 ∷ 65 ∷ 0 ∷ 1 ∷ 144 ∷ 0 ∷ 0 ∷ 0 ∷ 100 ∷ 0 ∷ 0 ∷ 0 ∷ 0 ∷ 0 ∷ 1 ∷ 1 ∷ 0 ∷ 150 ∷ []
+
+-- an LVL panel by its rate byte, moment, failure time, boards and lamellae; f 240
+abbrev pub lvl_with : ℕ → ℕ → ℕ → Cladding → List Lamella → Panel
+lvl_with rate moment failure boards ls = panel_with 2 rate 0 240 moment failure boards ls
+
+-- bare, of the rate of LVL
+abbrev pub lvl : ℕ → List Lamella → Panel
+lvl moment ls = lvl_with 65 moment 0 Unclad ls
+
+-- one lamella along, so many tenths of mm thick
+abbrev pub plate : ℕ → List Lamella
+plate h = lamella 1 h ∷ []
+
+-- 20.0 mm that 1 tenth off makes a thin panel
+abbrev pub lvl_20 : Panel
+lvl_20 = lvl 100 (plate 200)
+
+-- Rows, in seven parts, since antt computes no more than so many steps at once
 
 unfoldable pub charring_rows : List Case
 charring_rows =
@@ -307,6 +335,58 @@ cut_rows =
     ∷ planed (thinning 2) 60 30 30 (Some (off 2 1))
     ∷ []
 
+unfoldable pub lvl_rows : List Case
+lvl_rows =
+    -- the floor: no run starts at 30 mm, where the lamellae meet, so 39.0 mm at 60 min
+    gives (record_refusal lvl_floor) 0
+    ∷ gives (rate_of (panel_of lvl_floor)) 65
+    ∷ gives (char_at (panel_of lvl_floor) 60 1) (hundredths 3900 1)
+    ∷ in_phase (panel_of lvl_floor) 47 1 Settled
+    -- it fails as 39.7 mm no longer carry, that is at 32.7 mm of char, after 32.7/0.65 min
+    ∷ bears (panel_of lvl_floor) 50
+    ∷ failure_time (panel_of lvl_floor) 654 13
+    ∷ bears_for (panel_of lvl_floor) 50 18
+    ∷ adds_up (panel_of lvl_floor) 61035
+    -- 15.0 mm: 75²·150 = 843,750 is less than 65²·200 = 845,000, and 76²·150 is more. With 7 mm in 20 min the effective depth grows by
+    -- 0.76 + 0.35 = 1.11 mm/min; it fails as 11.3 mm no longer carry, from either face
+    ∷ gives (record_refusal lvl_thin) 0
+    ∷ gives (rate_of (panel_of lvl_thin)) 76
+    ∷ bears (panel_of lvl_thin) 10
+    ∷ failure_time (panel_of lvl_thin) 1130 111
+    ∷ bears_for (panel_of lvl_thin) 10 10
+    -- β by the whole thickness, from 10.0 mm on; CLT and two lamellae of 15.0 mm have the rate of their record
+    ∷ gives (rate_of (lvl 0 (plate 100))) 92
+    ∷ gives (rate_of (lvl 0 (plate 199))) 66
+    ∷ gives (rate_of (lvl 0 (plate 200))) 65
+    ∷ gives (rate_of (lvl 0 (lamella 1 150 ∷ lamella 1 150 ∷ []))) 65
+    ∷ gives (rate_of (bare 0 50 0 (plate 150))) 50
+    -- one lamella of thickness h carries M up to 22·f·h²/120,000, of CLT up to 23·f·h²/120,000: at 20.0 mm 1,760 and 1,840
+    ∷ gives (panel_refusal (lvl 1760 (plate 200))) 0
+    ∷ gives (panel_refusal (lvl 1761 (plate 200))) 13
+    ∷ gives (panel_refusal (bare 0 65 1840 (plate 200))) 0
+    ∷ gives (panel_refusal (bare 0 65 1841 (plate 200))) 13
+    -- behind boards the rate is that of the thin panel too. A 9.0: t_ch = t_f = 11.2 min, the first run ends at 2·t_f: 2·0.76·11.2 = 17.024 mm
+    ∷ in_phase (lvl_with 65 0 0 (One (board_of letter_a 90)) (plate 150)) 12 1 (Fast 1702400)
+    ∷ gives (char_at (lvl_with 65 0 0 (One (board_of letter_a 90)) (plate 150)) 12 1) (hundred_thousandths 121600 1)
+    -- F 12.5 that fails at 30 min: k2·β from 21 min on, 0.775·0.76·9 = 5.301 mm
+    ∷ gives (char_at (lvl_with 65 0 30000 (One (board125 letter_f)) (plate 150)) 30 1) (hundred_thousandths 530100 1)
+    -- all lamellae along and rate byte 65: 17 after 11, before 12 and 13; line 4 sees the byte
+    ∷ gives (panel_refusal (lvl 0 (lamella 1 300 ∷ lamella 0 300 ∷ []))) 17
+    ∷ gives (panel_refusal (lvl 0 (lamella 0 300 ∷ []))) 17
+    ∷ gives (panel_refusal (lvl 1000000 (lamella 0 300 ∷ lamella 1 300 ∷ []))) 17
+    ∷ gives (panel_refusal (lvl_with 66 0 0 Unclad (plate 300))) 17
+    ∷ gives (panel_refusal (lvl_with 76 0 0 Unclad (plate 150))) 17
+    ∷ gives (panel_refusal (lvl_with 40 0 0 Unclad (lamella 0 300 ∷ []))) 4
+    ∷ gives (panel_refusal (lvl 0 (lamella 0 99 ∷ []))) 11
+    ∷ gives (panel_refusal (panel_with 3 65 0 240 0 0 Unclad (plate 300))) 3
+    -- 20.0 mm: the effective depth grows by 0.65 + 0.35 = 1.00 mm/min and fails as 15.2 mm no longer carry. With a tenth off β is 66, and 15.1
+    -- mm are reached after 15.1/1.01 min, below 15
+    ∷ planed lvl_20 15 19 15 (Some (off 1 1))
+    ∷ failure_time lvl_20 76 5
+    ∷ gives (rate_of (cut_panel lvl_20 (off 1 1))) 66
+    ∷ failure_time (cut_panel lvl_20 (off 1 1)) 1510 101
+    ∷ []
+
 -- "G with M 3,000 prints exactly", with the line RS of document 02, 5/14
 abbrev pub g_card : List ℕ
 g_card =
@@ -324,4 +404,4 @@ card_rows =
     ∷ []
 
 abbrev pub further : List Case
-further = charring_rows ++ (wood_board_rows ++ (fire_rows ++ (first_run_rows ++ (rating_rows ++ (cut_rows ++ card_rows)))))
+further = charring_rows ++ (wood_board_rows ++ (fire_rows ++ (first_run_rows ++ (rating_rows ++ (cut_rows ++ (lvl_rows ++ card_rows))))))

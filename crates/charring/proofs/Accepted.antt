@@ -11,7 +11,9 @@ use Rattle.panel.specs.declared.Cladding.TheVariants.{Unclad, One, Two}
 use Rattle.panel.specs.declared.Panel.{Panel}
 use Rattle.panel.specs.Boards.{wood_based, material_of, gap_loss, inner_gain, is_f, type_f, char_through, charring_start}
 use Rattle.panel.proofs.Thicknesses.{gypsum_else, thickest_most}
-use Rattle.panel.specs.Product.{rate_of}
+use Rattle.panel.specs.Lamellae.{lamellae, thickness}
+use Rattle.panel.specs.Products.{product_of, rate_of}
+use Rattle.panel.proofs.Rates.{rate_within}
 use Rattle.refusals.specs.Refusals.{panel_refusal}
 use Rattle.limits.specs.Keeps.{TypesKeep, BoardKeeps, CladdingKeeps, Keeps}
 use Rattle.limits.proofs.Accepted.{accepted_keeps}
@@ -65,7 +67,7 @@ fire_part p k =
     let start = start_most p.gap p.cladding k.types k.boards in
     let failure = failure_within (type_f p.cladding) (start_of p) p.failure_time k.given start in
     record {
-      rate = k.rate_most;
+      rate = (rate_within (product_of p.bond) p.rate (thickness (lamellae p)) k.rate_least k.rate_most).1;
       start = start;
       failure = failure.1;
       order = failure.0;
@@ -80,4 +82,6 @@ fire_fits p e = fire_part p (accepted_keeps p e)
 
 -- and it chars
 pub rate_least_lem : (p : Panel) → panel_refusal p ≡ 0 → 50 ≤ rate_of p
-rate_least_lem p e = (accepted_keeps p e).rate_least
+rate_least_lem p e =
+    let k = accepted_keeps p e in
+    (rate_within (product_of p.bond) p.rate (thickness (lamellae p)) k.rate_least k.rate_most).0

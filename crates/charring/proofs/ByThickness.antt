@@ -1,12 +1,10 @@
 -- Bond lines by thicknesses alone: directions do not matter.
 use Prim.Native.Nat.{ℕ, ◌+◌, ◌*◌, ◌<◌, ◌≤◌, min}
-use mathlib.Core.Path.{◌≡◌, refl, ap}
-use mathlib.Core.Bool.{Bool, true, false}
+use mathlib.Core.Path.{◌≡◌, refl, sym, ap}
 use mathlib.Core.List.{List, [], ◌∷◌, map}
 use native.Mathlib.Omega.{arith}
 use lib.ListN.{length, take, get_or}
-use lib.Dec.{eqb}
-use borrow.Author.Tests.{eqb-true}
+use borrow.Author.Tests.{ne_eqb}
 use Rattle.panel.proofs.Used.{thicknesses_lamellae_of}
 use Rattle.panel.specs.declared.Panel.{Panel}
 use Rattle.panel.specs.Lamellae.{Lamella, lamellae, thickness}
@@ -69,13 +67,14 @@ module _ (p : Panel) (h : p.count ≤ length p.thicknesses) where
   unfolding bond_lines
   lines_of_panel e = rw (e, ← thicknesses_lamellae_of p.directions p.thicknesses p.count h) (same_lines 0 (lamellae p))
 
+-- where the bond does not fall, no line matters
+pub lines_none : (p : Panel) → (p.bond ≡ 1 → ⊥) → bond_lines p ≡ []
+unfolding bond_lines
+lines_none p h = rw (bond_lines, ne_eqb p.bond 1 h)
+
 pub no_lines : (p : Panel) → (p.bond ≡ 1 → ⊥) → lines_from 0 (by_thickness []) ≡ bond_lines p
-unfolding lines_from bond_lines
-no_lines p h = go (eqb p.bond 1) refl
-  where
-    go : (b : Bool) → eqb p.bond 1 ≡ b → lines_from 0 (by_thickness []) ≡ bond_lines p
-    go true e = absurd (h (eqb-true p.bond 1 e))
-    go false e = rw (bond_lines, e)
+unfolding lines_from
+no_lines p h = sym (lines_none p h)
 
 pub nothing_within : 0 + tenth * thickness (by_thickness []) ≤ 400000000000
 unfolding thickness

@@ -7,7 +7,7 @@ use native.Mathlib.Decide.{dec_le}
 use Rattle.panel.specs.declared.Cladding.{Cladding}
 use Rattle.panel.specs.declared.Cladding.TheVariants.{Unclad, One, Two}
 use Rattle.panel.specs.declared.Panel.{Panel}
-use Rattle.panel.specs.Product.{rate_of}
+use Rattle.panel.specs.Products.{rate_of}
 use Rattle.charring.specs.Rates.{tenth, start_of, failure_of, k2, plain_rate, slow_rate, back_face}
 use Rattle.charring.specs.Way.{way, charred}
 use Rattle.charring.specs.Depths.{under_at, after_at, char_at, full_at, effective_at, micrometres_at, tenths_at}

@@ -2,7 +2,7 @@
 use Prim.Native.Nat.{◌-◌, ◌≤◌}
 use native.Mathlib.Omega.{arith}
 use Rattle.panel.specs.declared.Panel.{Panel}
-use Rattle.panel.specs.Product.{rate_of}
+use Rattle.panel.specs.Products.{rate_of}
 use Rattle.charring.specs.Rates.{start_of, failure_of, k2, slow_rate, plain_rate, depth_at_failure, first_end, back_face}
 use Rattle.charring.specs.Depths.{full_at}
 use Rattle.charring.specs.Fits.{CharringFits}

@@ -7,7 +7,7 @@ use native.Mathlib.Omega.{arith}
 use native.Mathlib.Decide.{dec_lt}
 use native.Mathlib.Nat.{mul_comm, mul-pos, mul-le-mul_left, mul-lt-mul_of_pos_left, lt_of_mul-lt-mul_left, lt_of_mul-lt-mul_right, lt_of_lt_of_le}
 use Rattle.panel.specs.declared.Panel.{Panel}
-use Rattle.panel.specs.Product.{rate_of}
+use Rattle.panel.specs.Products.{rate_of}
 use Rattle.panel.specs.Lamellae.{lamellae, thickness}
 use Rattle.charring.specs.Rates.{tenth, failure_of, plain_rate, back_face, depth_at_failure}
 use Rattle.charring.specs.Way.{Stretch, way, charred, fast_part, settled_part}

@@ -9,6 +9,7 @@ use Rattle.panel.specs.Lamellae.{Lamella, cleared, SameUsed}
 use Rattle.panel.proofs.Used.{lamellae_cleared, unused}
 use Rattle.charring.specs.Rates.{failure_of, intact_end, first_end, lines_from, bond_lines}
 use Rattle.charring.specs.Way.{way}
+use Rattle.panel.proofs.Rates.{rate_cleared}
 use Rattle.charring.specs.Depths.{char_at, effective_at, tenths_at}
 
 -- With unused places 0
@@ -20,11 +21,11 @@ lines_cleared p =
 
 pub way_cleared : (p : Panel) → way (cleared p) ≡ way p
 unfolding way first_end intact_end failure_of
-way_cleared p = rw (lines_cleared p, lamellae_cleared p) refl
+way_cleared p = rw (lines_cleared p, rate_cleared p, lamellae_cleared p) refl
 
 pub char_cleared : (p : Panel) (n m : ℕ) → char_at (cleared p) n m ≡ char_at p n m
 unfolding char_at failure_of
-char_cleared p n m = rw (way_cleared p, lamellae_cleared p) refl
+char_cleared p n m = rw (way_cleared p, rate_cleared p, lamellae_cleared p) refl
 
 tenths_cleared : (p : Panel) (n m : ℕ) → tenths_at (cleared p) n m ≡ tenths_at p n m
 unfolding effective_at

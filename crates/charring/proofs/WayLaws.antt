@@ -8,7 +8,7 @@ use lib.Dec.{ltb, eqb}
 use borrow.Author.Tests.{ltb-false}
 use Rattle.numbers.specs.Choice.{pick}
 use Rattle.panel.specs.declared.Panel.{Panel}
-use Rattle.panel.specs.Product.{rate_of}
+use Rattle.panel.specs.Products.{rate_of}
 use Rattle.panel.specs.Lamellae.{Lamella, lamellae}
 use Rattle.charring.specs.Rates.{tenth, fast_run, start_of, failure_of, plain_rate, clad, back_face, depth_at_failure}
 use Rattle.charring.specs.Rates.{lines_from, bond_lines, line_end, intact_end, passed_end, first_end}

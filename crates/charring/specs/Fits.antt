@@ -3,7 +3,7 @@
 use Rattle.std.specs.Prelude.{ℕ, ◌*◌, ◌<◌, ◌≤◌}
 use Rattle.panel.specs.declared.Panel.{Panel}
 use Rattle.panel.specs.Lamellae.{lamellae, thickness}
-use Rattle.panel.specs.Product.{rate_of}
+use Rattle.panel.specs.Products.{rate_of}
 use Rattle.refusals.specs.Causes.{last_minute}
 use Rattle.charring.specs.Rates.{start_of, failure_of, k2}
 

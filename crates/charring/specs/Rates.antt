@@ -7,7 +7,7 @@ use Rattle.panel.specs.declared.Cladding.TheVariants.{Unclad, One, Two}
 use Rattle.panel.specs.declared.Panel.{Panel}
 use Rattle.panel.specs.Boards.{type_f, charring_start}
 use Rattle.panel.specs.Lamellae.{Lamella, lamellae, thickness}
-use Rattle.panel.specs.Product.{rate_of}
+use Rattle.panel.specs.Products.{rate_of}
 
 -- Units
 
@@ -63,7 +63,7 @@ lines_from top [] = []
 lines_from top (l ∷ []) = []
 lines_from top (l ∷ m ∷ ls) = (top + tenth * l.thickness) ∷ lines_from (top + tenth * l.thickness) (m ∷ ls)
 
--- the lines that matter: "Bond holds: lines don't matter."
+-- the lines that matter: "Bond holds: lines don't matter."; LVL has "no bond lines"
 unfoldable pub bond_lines : Panel → List ℕ
 bond_lines p = elim (eqb p.bond 1) [ true ↦ lines_from 0 (lamellae p) | false ↦ [] ]
 

@@ -8,7 +8,7 @@ ghost use Rattle.charring.specs.Walk.{lines_left};
 use crate::lines::Lines;
 use crate::{CharringValues, FAST_RUN, TENTH};
 use panel::boards::{charring_start, type_f};
-use panel::product::rate_of;
+use panel::products::rate_of;
 use panel::{Cladding, Panel};
 
 fn k2_of(c: Cladding) -> u64
@@ -75,7 +75,8 @@ impl CharringValues {
     {
         let start = start_of(panel);
         let failure = failure_of(panel, start);
-        let rate = rate_of(panel);
+        let thick = panel.lamellae().total_thickness();
+        let rate = rate_of(panel, thick);
         let slow = k2_of(panel.cladding) * rate;
         let depth = slow * (failure - start);
         let intact = intact_end(is_clad(panel.cladding), start, failure, 10000 * rate);
@@ -87,7 +88,7 @@ impl CharringValues {
             plain: 10000 * rate,
             depth,
             end: passed_end(Lines::of(&panel), depth, intact),
-            back: TENTH * u64::from(panel.lamellae().total_thickness()),
+            back: TENTH * u64::from(thick),
             full: start.max(20000),
         }
     }

@@ -2,12 +2,11 @@
 use Prim.Native.Nat.{ℕ, zero, suc, ◌-◌, ◌*◌, ◌≤◌, ◌<◌, min}
 use mathlib.Core.Path.{◌≡◌, ap, ap₂}
 use mathlib.Core.List.Memᴰ
-use mathlib.Core.List.{List, [], ◌∷◌, Memᴰ}
+use mathlib.Core.List.{List, ◌∷◌, Memᴰ}
 use mathlib.Core.Bool.{Bool}
 use mathlib.Core.Logic.{◌⊎◌, inl, inr}
 use native.Mathlib.Omega.{arith}
 use native.Mathlib.Nat.{mul-lt-mul_of_pos_left, mul-le-mul_left}
-use borrow.Author.Tests.{ne_eqb}
 use Rattle.panel.specs.declared.Panel.{Panel}
 use Rattle.panel.specs.Faces.{turned, fires_on, least_of}
 use Rattle.panel.proofs.Turning.{every_holds}
@@ -15,12 +14,13 @@ use Rattle.refusals.specs.Refusals.{panel_refusal}
 use Rattle.charring.specs.Rates.{start_of, failure_of, slow_rate, back_face, depth_at_failure, bond_lines, line_end, intact_end, passed_end, first_end}
 use Rattle.charring.specs.Way.{Stretch, way_to, way}
 use Rattle.charring.specs.Depths.{char_on, char_at, effective_from, effective_at, in_tenths}
-use Rattle.phases.specs.Phases.{phase_from, phase_at}
+use Rattle.phases.specs.Phases.{phase_after, phase_from, phase_at}
 use Rattle.section.specs.Tests.{depth_passes}
 use Rattle.load.specs.Failure.{seconds_per_minute}
 use Rattle.load.specs.LoadMinute.{every_from, time_test, whole_part, load_minute, load_seconds}
 use Rattle.charring_stated.specs.Charring.{NonePassed, DeepestPassed, NoLineAt}
 use Rattle.charring_stated.specs.FirstRun.{intact_way, intact_test, Intact, IntactInEvery, PastLine, FirstRun, intact, past_line}
+use Rattle.charring.proofs.ByThickness.{lines_none}
 use Rattle.charring.proofs.FirstRun.{none_passed}
 use Rattle.charring_stated.proofs.Lines.{lines_deeper, deeper_above, deeper_after, line_end_short}
 use Rattle.charring_stated.proofs.FirstEnds.{char_at_failure, passed_short, intact_end_lem, deepest_end, DeepestOrNone, none_of, deepest_of, deepest_or_none}
@@ -38,16 +38,15 @@ as_intact p e =
     record {
       end = e;
       depth = λ n q. ap (λ (ss : List Stretch). char_on p ss n q) same;
-      phase = λ n q. ap (λ (ss : List Stretch). phase_from p (char_on p ss n q) (back_face p) ss n q) same;
+      phase = λ n q. ap (λ (ss : List Stretch). phase_from p (char_on p ss n q) (back_face p) (phase_after p ss n q) n q) same;
       minute = ap (λ (f : ℕ → ℕ → Bool). whole_part f 1) test;
       second = ap (λ (f : ℕ → ℕ → Bool). whole_part f seconds_per_minute) test;
     }
 
 -- where the bond does not fall, no line matters
 pub bond_holds : (p : Panel) → (p.bond ≡ 1 → ⊥) → Intact p
-unfolding bond_lines first_end passed_end
-bond_holds p holds =
-    as_intact p (ap (passed_end (depth_at_failure p) (intact_end p)) (let none : bond_lines p ≡ [] = rw (bond_lines, ne_eqb p.bond 1 holds) in none))
+unfolding first_end passed_end
+bond_holds p holds = as_intact p (ap (passed_end (depth_at_failure p) (intact_end p)) (lines_none p holds))
 
 -- "Depths and minutes of holding panels are unchanged.": for every face
 pub bond_holds_in_every : (p : Panel) → (p.bond ≡ 1 → ⊥) → IntactInEvery p

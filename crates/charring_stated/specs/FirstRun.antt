@@ -7,7 +7,7 @@ use Rattle.phases.specs.declared.Phase.TheVariants.{Settled}
 use Rattle.charring.specs.Rates.{failure_of, back_face, bond_lines, line_end, intact_end, first_end}
 use Rattle.charring.specs.Way.{Stretch, way_to}
 use Rattle.charring.specs.Depths.{char_on, char_at, effective_from, in_tenths}
-use Rattle.phases.specs.Phases.{phase_from, phase_at}
+use Rattle.phases.specs.Phases.{phase_after, phase_from, phase_at}
 use Rattle.load.specs.Failure.{seconds_per_minute}
 use Rattle.load.specs.LoadMinute.{every_from, whole_part, load_minute, printed_load, load_seconds, printed_load_seconds}
 use Rattle.charring_stated.specs.Charring.{FastUpTo, NonePassed, DeepestPassed, NoLineAt}
@@ -24,7 +24,7 @@ intact_test p n q = every_from (depth_passes p) 0 (in_tenths p (effective_from p
 pub record Intact (p : Panel) : Type 0 where
   pub end : first_end p ≡ intact_end p
   pub depth : (n q : ℕ) → char_at p n q ≡ char_on p (intact_way p) n q
-  pub phase : (n q : ℕ) → phase_at p n q ≡ phase_from p (char_on p (intact_way p) n q) (back_face p) (intact_way p) n q
+  pub phase : (n q : ℕ) → phase_at p n q ≡ phase_from p (char_on p (intact_way p) n q) (back_face p) (phase_after p (intact_way p) n q) n q
   pub minute : load_minute p ≡ whole_part (intact_test p) 1
   pub second : load_seconds p ≡ whole_part (intact_test p) seconds_per_minute
 

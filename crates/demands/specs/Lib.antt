@@ -5,3 +5,4 @@ pub mod Ratings
 pub mod FinerTimes
 pub mod Planing
 pub mod NoByte
+pub mod Lvl

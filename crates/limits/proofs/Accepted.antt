@@ -5,7 +5,7 @@ use mathlib.Core.Path.{◌≡◌, refl, subst}
 use mathlib.Core.List.{List, [], ◌∷◌}
 use mathlib.Core.Bool.{Bool, true, false, not, ◌&&◌, ◌||◌}
 use native.Mathlib.Omega.{arith}
-use borrow.Author.Tests.{ltb-false, not-false, eqb-true, eq-eqb}
+use borrow.Author.Tests.{ltb-false, not-false, eqb-true, eqb-false, eq-eqb}
 use lib.ListN.{length, get_or}
 use lib.Dec.{ltb, eqb}
 use native.Mathlib.Nat.{le_trans, le-add_right}
@@ -15,7 +15,8 @@ use Rattle.panel.specs.declared.Board.{Board}
 use Rattle.panel.specs.declared.Cladding.{Cladding}
 use Rattle.panel.specs.declared.Cladding.TheVariants.{Unclad, One, Two}
 use Rattle.panel.specs.declared.Panel.{Panel}
-use Rattle.panel.specs.Lamellae.{Lamella, lamella, lamellae, lamellae_of, thickness}
+use Rattle.panel.specs.Lamellae.{Lamella, lamella, lamellae, lamellae_of, across, thickness}
+use Rattle.panel.specs.Products.{product_of, is_lvl, lvl_rate, AllAlong}
 use Rattle.panel.specs.declared.Material.{Material}
 use Rattle.panel.specs.declared.Material.TheVariants.{Wood}
 use Rattle.panel.specs.Materials.{thinnest, thickest, bad_thickness}
@@ -24,9 +25,9 @@ use Rattle.panel.proofs.Used.{length_lamellae_of, get_or_lamellae_of}
 use Rattle.panel.proofs.Thicknesses.{thinnest_least}
 use Rattle.section.specs.Tests.{SectionFits}
 use Rattle.refusals.specs.Lines.{down_to}
-use Rattle.refusals.specs.Causes.{bad_types, bad_board, bad_boards, bad_lamella, some}
+use Rattle.refusals.specs.Causes.{bad_types, bad_board, bad_boards, bad_lamella, bad_lvl, some}
 use Rattle.refusals.specs.Refusals.{panel_lines, panel_refusal, refusal_before_section}
-use Rattle.limits.specs.Keeps.{ThicknessKeeps, TypesKeep, BoardKeeps, CladdingKeeps, LamellaKeeps, LamellaeKeep, ThicknessesKeep, Keeps, StartWhole}
+use Rattle.limits.specs.Keeps.{ThicknessKeeps, TypesKeep, BoardKeeps, CladdingKeeps, LamellaKeeps, LamellaeKeep, LvlKeeps, ThicknessesKeep, Keeps, StartWhole}
 use Rattle.refusals.proofs.FirstLine.{cause_none}
 use Rattle.refusals.proofs.PanelTable.{section_fits, accepted_before_section}
 
@@ -80,6 +81,20 @@ lamellae_keep (l ∷ ls) e =
       lamellae_keep ls both.1,
     )
 
+-- of lamellae that are no other than across or along, where none is across, all are along
+all_along : (ls : List Lamella) → LamellaeKeep ls → some across ls ≡ false → AllAlong ls
+unfolding some
+all_along [] k e = tt
+all_along (l ∷ ls) k e =
+    let both = or_parts (across l) (some across ls) e in
+    let one : l.direction ≡ 1 = omega (arith, k.0.direction, eqb-false l.direction 0 both.0) in
+    (eq-eqb l.direction 1 one, all_along ls k.1 both.1)
+
+lvl_keeps : (p : Panel) → LamellaeKeep (lamellae p) → bad_lvl p ≡ false → is_lvl (product_of p.bond) ≡ true → LvlKeeps p
+lvl_keeps p k e lvl =
+    let both = or_parts (some across (lamellae p)) (not (eqb p.rate lvl_rate)) (rw lvl at e) in
+    record { along = all_along (lamellae p) k both.0; rate = eqb-true p.rate lvl_rate (not-false (eqb p.rate lvl_rate) both.1) }
+
 -- a panel that no line above 13 refuses keeps every limit
 pub to12_keeps : (p : Panel) → refusal_before_section p ≡ 0 → Keeps p
 unfolding refusal_before_section
@@ -87,17 +102,18 @@ to12_keeps p e =
     let none = cause_none (down_to 12 (panel_lines p)) tt e in
     let version = in_range 1 2 p.version (none 2) in
     let sixteen = or_parts (ltb 2 p.face) (eqb p.version 1 && not (eqb p.face 0)) (none 16) in
-    let three = or_parts (ltb 1 p.bond) (ltb 1 p.gap) (none 3) in
+    let three = or_parts (ltb 2 p.bond) (ltb 1 p.gap) (none 3) in
     let rate = in_range 50 100 p.rate (none 4) in
     let load = or_parts (outside 1 400 p.strength) (ltb 1000000 p.moment) (none 5) in
     let time = given_keeps (type_f p.cladding) (charring_start p.gap p.cladding) p.failure_time (none 9) in
     let thick = or_parts (some bad_lamella (lamellae p)) (ltb 4000 (thickness (lamellae p))) (none 11) in
+    let each = lamellae_keep (lamellae p) thick.0 in
     record {
       version_least = version.0;
       version_most = version.1;
       face = ltb-false 2 p.face sixteen.0;
       first_face = λ e. eqb-true p.face 0 (not-false (eqb p.face 0) (rw (eq-eqb p.version 1 e) at sixteen.1));
-      bond = ltb-false 1 p.bond three.0;
+      bond = ltb-false 2 p.bond three.0;
       gap = ltb-false 1 p.gap three.1;
       rate_least = rate.0;
       rate_most = rate.1;
@@ -108,7 +124,8 @@ to12_keeps p e =
       boards = cladding_keeps p.cladding (none 8);
       given = time.0;
       not_given = time.1;
-      each = lamellae_keep (lamellae p) thick.0;
+      each = each;
+      lvl = lvl_keeps p each (none 17);
     }
 
 -- an accepted panel keeps every limit
@@ -137,6 +154,17 @@ lamella_keeps p k i h = keep_at p.directions p.thicknesses p.count k.each i h
 
 pub thicknesses_keep : (p : Panel) → Keeps p → ThicknessesKeep p.thicknesses p.count
 thicknesses_keep p k i h = (lamella_keeps p k i h).thickness
+
+-- an accepted panel is at least as thick as one lamella
+pub accepted_least : (p : Panel) → panel_refusal p ≡ 0 → 100 ≤ thickness (lamellae p)
+unfolding thickness
+accepted_least p e =
+    let k = accepted_keeps p e in
+    least (lamellae p) k.each (omega (arith, k.count_least, length_lamellae_of p.directions p.thicknesses p.count))
+  where
+    least : (ls : List Lamella) → LamellaeKeep ls → 0 < length ls → 100 ≤ thickness ls
+    least [] k h = absurd (let z : ⊥ = omega arith in z)
+    least (l ∷ ls) k h = omega (arith, k.0.thickness.least)
 
 -- The start of charring
 

@@ -1,4 +1,4 @@
--- What lines 2 to 11 and 16 leave of a panel that none of them refuses, as inequalities: the one record of limits that the other crates
+-- What lines 2 to 11, 16 and 17 leave of a panel that none of them refuses, as inequalities: the one record of limits that the other crates
 -- work within. What their inner functions ask for are parts of it.
 use Rattle.std.specs.Prelude.{ℕ, ◌+◌, ◌*◌, ◌<◌, ◌≤◌, ◌≡◌, true, false, List, [], ◌∷◌, get_or}
 use Rattle.panel.specs.declared.Board.{Board}
@@ -10,6 +10,7 @@ use Rattle.panel.specs.declared.Material.TheVariants.{Wood}
 use Rattle.panel.specs.Materials.{thinnest, thickest}
 use Rattle.panel.specs.Boards.{wood_based, material_of, type_f, whole_joint, gap_loss, inner_gain, charring_start}
 use Rattle.panel.specs.Lamellae.{Lamella, lamellae}
+use Rattle.panel.specs.Products.{product_of, is_lvl, lvl_rate, AllAlong}
 use Rattle.section.specs.Tests.{SectionFits}
 
 -- a layer of the material may have the thickness h
@@ -43,6 +44,11 @@ abbrev pub LamellaeKeep : List Lamella → Type 0
 LamellaeKeep [] = Unit
 LamellaeKeep (l ∷ ls) = LamellaKeeps l × LamellaeKeep ls
 
+-- line 17, of an LVL panel
+pub record LvlKeeps (p : Panel) : Type 0 where
+  pub along : AllAlong (lamellae p)
+  pub rate : p.rate ≡ lvl_rate
+
 -- the first n thicknesses of an array are those of lamellae
 abbrev pub ThicknessesKeep : List ℕ → ℕ → Type 0
 ThicknessesKeep ts n = (i : ℕ) → i < n → ThicknessKeeps Wood (get_or ts i 0)
@@ -55,7 +61,7 @@ pub record Keeps (p : Panel) : Type 0 where
   pub face : p.face ≤ 2
   pub first_face : p.version ≡ 1 → p.face ≡ 0
   -- line 3
-  pub bond : p.bond ≤ 1
+  pub bond : p.bond ≤ 2
   pub gap : p.gap ≤ 1
   -- line 4
   pub rate_least : 50 ≤ p.rate
@@ -73,6 +79,8 @@ pub record Keeps (p : Panel) : Type 0 where
   pub not_given : type_f p.cladding ≡ false → p.failure_time ≡ 0
   -- line 11
   pub each : LamellaeKeep (lamellae p)
+  -- line 17
+  pub lvl : is_lvl (product_of p.bond) ≡ true → LvlKeeps p
 
 -- the difference in t_ch behind gypsum is not cut off at 0
 abbrev pub StartWhole : ℕ → Cladding → Type 0

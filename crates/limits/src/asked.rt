@@ -8,7 +8,7 @@ use crate::minute::Minute;
 use panel::Panel;
 use refusals::refusal::Refusal;
 
-// Lines 2, 16 and 3 to 13 of a panel, then line 15 of a minute. The panel and the minute are kept as they are, two parameters: what the open
+// The lines of a panel, then line 15 of a minute. The panel and the minute are kept as they are, two parameters: what the open
 // calls are asked for.
 pub fn asked(p: Panel, minute: u16) -> Result<Accepted, Refusal>
     ensures { by_number result ≡ asked_answer p minute }

@@ -10,7 +10,7 @@ use section::Section;
 use section::sums::section_at;
 use section::test::DesignValues;
 
-// Lines 2, 16 and 3 to 13 of a panel: the first that fits.
+// The lines of a panel: the first that fits.
 #[tactic(auto, using(refusals::proofs::FirstLine::handed_on, refusals::proofs::FirstLine::goes_on), unfolding(crate::specs::Answers::panel_check, crate::specs::Answers::accepted_answer))]
 pub fn panel_check(p: Panel) -> Result<(), Refusal>
     ensures { by_number result ≡ panel_check p }

@@ -7,7 +7,7 @@ use native.Mathlib.Nat.{le_trans, mul-pos, mul-lt-mul_of_pos_left}
 use lib.Dec.{T, leb, ltb, eqb, leb→le, ltb→lt, eqb→eq}
 use Rattle.numbers.proofs.Booleans.{IsTrue-true, IsTrue-false, IsTrue-left, IsTrue-right, not_both}
 use Rattle.panel.specs.declared.Panel.{Panel}
-use Rattle.panel.specs.Product.{rate_of}
+use Rattle.panel.specs.Products.{rate_of}
 use Rattle.panel.specs.Lamellae.{lamellae, thickness}
 use Rattle.section.specs.Tests.{depth_passes}
 use Rattle.charring.specs.Rates.{tenth, failure_of}

@@ -2,7 +2,7 @@
 -- what it holds of is the failure time.
 use Rattle.std.specs.Prelude.{ℕ, suc, ◌*◌, Bool, not, ◌&&◌, leb, ltb, eqb}
 use Rattle.panel.specs.declared.Panel.{Panel}
-use Rattle.panel.specs.Product.{rate_of}
+use Rattle.panel.specs.Products.{rate_of}
 use Rattle.panel.specs.Lamellae.{lamellae, thickness}
 use Rattle.section.specs.Tests.{depth_passes}
 use Rattle.charring.specs.Rates.{tenth, failure_of}

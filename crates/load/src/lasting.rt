@@ -11,7 +11,6 @@ use charring::{CharringValues, Time};
 use limits::minute::Minute;
 use panel::Panel;
 use panel::faces::{shown, turned};
-use panel::product::factor_of;
 use section::test::DesignValues;
 
 // Every depth from the first through the last, both in, under a moment. The ranges widen and narrow, so that it is kept as it is beside
@@ -22,11 +21,7 @@ pub fn every_depth_passes(p: Panel, moment: u32, first: u64, last: u64) -> bool
     requires order { (first ≤ last) × (last ≤ 4000) }
     ensures { result ≡ every_through (passes_under moment p) first last }
 {
-    let design = DesignValues {
-        factor: factor_of(p.bond),
-        moment,
-        strength: p.strength,
-    };
+    let design = DesignValues::under(moment, &p);
     let Some(mut reach) = Reach::start(p.lamellae(), design, first, last) else {
         return false;
     };

@@ -33,6 +33,15 @@ least_before test (suc bound) n h = go (test 0) refl n h (least_before (next tes
     go false e zero h later = e
     go false e (suc n) h later = later n (omega arith)
 
+pub least_most : (test : ℕ → Bool) (bound : ℕ) → least test bound ≤ bound
+unfolding least
+least_most test zero = omega arith
+least_most test (suc bound) = go (test 0) (least_most (next test) bound)
+  where
+    go : (b : Bool) → least (next test) bound ≤ bound → pick b 0 (suc (least (next test) bound)) ≤ suc bound
+    go true h = omega arith
+    go false h = omega arith
+
 -- a number is found where none before it keeps the test, and it does or is the bound
 pub least_is :
     (test : ℕ → Bool) (bound v : ℕ) → v ≤ bound → ((n : ℕ) → n < v → test n ≡ false) → (v < bound → test v ≡ true) → least test bound ≡ v

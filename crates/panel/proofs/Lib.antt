@@ -3,3 +3,4 @@ pub mod Lent
 pub mod Arrays
 pub mod Turning
 pub mod Thicknesses
+pub mod Rates

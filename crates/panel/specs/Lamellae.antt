@@ -44,9 +44,15 @@ cleared p = with_lamellae p (lamellae p)
 abbrev pub SameUsed : Panel → Panel → Type 0
 SameUsed p q = cleared p ≡ cleared q
 
--- along the span, "1 along"
+-- whether a lamella lies in a direction: "0 across or 1 along", along the span
+abbrev pub lies : ℕ → Lamella → Bool
+lies direction l = eqb l.direction direction
+
+abbrev pub across : Lamella → Bool
+across l = lies 0 l
+
 abbrev pub along : Lamella → Bool
-along l = eqb l.direction 1
+along l = lies 1 l
 
 -- the thickness of a run of lamellae, tenths of mm
 unfoldable pub thickness : List Lamella → ℕ

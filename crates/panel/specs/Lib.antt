@@ -2,6 +2,6 @@ pub mod Lamellae
 pub mod Lent
 pub mod Materials
 pub mod Boards
-pub mod Product
+pub mod Products
 pub mod Faces
 pub mod Worked

@@ -1,5 +1,5 @@
 -- Unused places do not matter: panels that differ at most there have the same phases and depth table and meet the same refusals.
-use Prim.Native.Nat.{ℕ, ◌*◌}
+use Prim.Native.Nat.{ℕ, ◌-◌, ◌*◌}
 use mathlib.Core.Path.{◌≡◌, refl, ap}
 use mathlib.Core.List.{List, ◌++◌}
 use lib.ListN.{drop}
@@ -8,6 +8,7 @@ use Rattle.panel.specs.declared.Panel.{Panel}
 use Rattle.panel.specs.Lamellae.{cleared, SameUsed, thickness}
 use Rattle.panel.specs.Faces.{shown}
 use Rattle.panel.proofs.Used.{lamellae_cleared, unused}
+use Rattle.panel.proofs.Rates.{rate_cleared}
 use Rattle.panel.proofs.Turning.{shown_same}
 use Rattle.refusals.specs.Lines.{Line, refusal, answer, unless_refused}
 use Rattle.refusals.proofs.Unused.{lines_unused}
@@ -15,7 +16,7 @@ use Rattle.limits.proofs.Minutes.{minute_refusal_same}
 use Rattle.charring.specs.Rates.{tenth, failure_of}
 use Rattle.charring.specs.Depths.{round_up, micrometres_at}
 use Rattle.charring.proofs.Unused.{way_cleared, char_cleared, char_same, tenths_same}
-use Rattle.phases.specs.Phases.{phase_from, phase_at}
+use Rattle.phases.specs.Phases.{phase_on, phase_from, phase_at}
 use Rattle.phases.specs.Answers.{
   table_refusal,
   phase_answer,
@@ -31,7 +32,9 @@ use Rattle.phases.proofs.Replies.{short}
 
 phase_cleared : (p : Panel) (n m : ℕ) → phase_at (cleared p) n m ≡ phase_at p n m
 unfolding phase_at failure_of
-phase_cleared p n m = λ i. phase_from p (char_cleared p n m i) (tenth * thickness (lamellae_cleared p i)) (way_cleared p i) n m
+phase_cleared p n m =
+    λ i. phase_from p (char_cleared p n m i) (tenth * thickness (lamellae_cleared p i))
+    (phase_on (way_cleared p i) (2 * (10000 * rate_cleared p i) * (1000 * n - m * failure_of p)) m) n m
 
 pub phase_same : (p q : Panel) → SameUsed p q → (n m : ℕ) → phase_at p n m ≡ phase_at q n m
 phase_same p q h n m = unused (λ (p : Panel). phase_at p n m) (λ p. phase_cleared p n m) p q h

@@ -25,9 +25,13 @@ abbrev pub phase_in : Bool → ℕ → Phase
 phase_in true end = Fast (end / 10000)
 phase_in false end = Settled
 
--- the phase at n/q minutes, by a char depth, a back face and a way from t_f on; "a panel charred through is settled"
-abbrev pub phase_from : Panel → ℕ → ℕ → List Stretch → ℕ → ℕ → Phase
-phase_from p char back ss n q =
+-- from t_f on, on a way
+abbrev pub phase_after : Panel → List Stretch → ℕ → ℕ → Phase
+phase_after p ss n q = phase_on ss (2 * plain_rate p * (1000 * n - q * failure_of p)) q
+
+-- the phase at n/q minutes, by a char depth, a back face and the phase that it is in from t_f on; "a panel charred through is settled"
+abbrev pub phase_from : Panel → ℕ → ℕ → Phase → ℕ → ℕ → Phase
+phase_from p char back after n q =
     elim (leb (2 * q * back) char) as (λ _. Phase) [
       | true ↦ Settled
       | false ↦
@@ -36,11 +40,11 @@ phase_from p char back ss n q =
             | false ↦
                 elim (ltb (1000 * n) (q * failure_of p)) as (λ _. Phase) [
                   | true ↦ UnderCladding
-                  | false ↦ phase_on ss (2 * plain_rate p * (1000 * n - q * failure_of p)) q
+                  | false ↦ after
                 ]
           ]
     ]
 
 -- by the panel's own
 unfoldable pub phase_at : Panel → ℕ → ℕ → Phase
-phase_at p n q = phase_from p (char_at p n q) (back_face p) (way p) n q
+phase_at p n q = phase_from p (char_at p n q) (back_face p) (phase_after p (way p) n q) n q

@@ -1,8 +1,7 @@
 // The phase of a fire at a time.
 ghost use Rattle.std.specs.Prelude.{◌≡◌, ◌-◌, ◌*◌, ◌≤◌, ltb};
-ghost use Rattle.charring.specs.Rates.{failure_of, plain_rate};
 ghost use Rattle.charring.specs.Way.{way};
-ghost use Rattle.phases.specs.Phases.{phase_on, phase_in, phase_at};
+ghost use Rattle.phases.specs.Phases.{phase_in, phase_after, phase_at};
 
 use crate::Phase;
 use charring::lines::Lines;
@@ -22,7 +21,7 @@ fn phase_in(progress: Progress, fast: u64) -> Phase
 
 // On the way from t_f on.
 fn phase_after(fire: &CharringValues, at: Time) -> Phase
-    ensures { result ≡ phase_on (way fire.now.panel) (2 * plain_rate fire.now.panel * (1000 * at.n - at.q * failure_of fire.now.panel)) at.q }
+    ensures { result ≡ phase_after fire.now.panel (way fire.now.panel) at.n at.q }
 {
     let mut progress = fire.at_failure(at);
     for line in Lines::of(&fire.panel) {

@@ -1,26 +1,26 @@
 -- A cut panel: an allowed cut of an accepted panel meets no line but 13.
 use Rattle.std.proofs.lemmas.Bool.{or_parts, or_from}
-use Prim.Native.Nat.{◌+◌, ◌≤◌, ◌<◌}
+use Prim.Native.Nat.{ℕ, ◌+◌, ◌≤◌, ◌<◌}
 use mathlib.Core.Path.{◌≡◌, refl, ap, ◌∙◌}
-use mathlib.Core.List.{List}
-use mathlib.Core.Bool.{Bool, true, false, not}
+use mathlib.Core.Bool.{Bool, true, false, not, ◌&&◌, ◌||◌}
 use mathlib.Core.Logic.{◌⊎◌, inl, inr}
 use native.Mathlib.Omega.{arith}
 use borrow.Author.Tests.{leb-true, ltb-true, ltb-false, le-ltb}
-use lib.Dec.{leb, ltb}
+use lib.Dec.{eqb, leb, ltb}
 use Rattle.numbers.specs.Choice.{pick}
 use Rattle.numbers.proofs.Booleans.{and_left, and_right}
 use Rattle.panel.specs.declared.Panel.{Panel}
-use Rattle.panel.specs.Lamellae.{Lamella, lamellae, along, thickness}
+use Rattle.panel.specs.Lamellae.{lamellae, lies, thickness}
+use Rattle.panel.specs.Products.{product_of, is_lvl, lvl_rate}
 use Rattle.panel.proofs.Used.{lamellae_with, length_lamellae_of}
 use Rattle.refusals.specs.Lines.{down_to}
-use Rattle.refusals.specs.Causes.{bad_count, bad_lamella, bad_lamellae, none_along, bad_section, some}
+use Rattle.refusals.specs.Causes.{bad_count, bad_lamella, bad_lamellae, bad_lvl, none_along, bad_section, some}
 use Rattle.refusals.specs.Refusals.{panel_lines, panel_refusal, refusal_before_section}
 use Rattle.refusals.proofs.FirstLine.{accepted_iff}
 use Rattle.refusals.proofs.PanelTable.{accepted_cause, section_decides}
 use Rattle.planing.specs.declared.Cut.{Cut}
 use Rattle.planing.specs.Cuts.{thickness_at, thinned, cut_panel, least_kept, allowed}
-use Rattle.planing.proofs.Thinned.{thinned_length, thinned_thickness, thinned_along, thinned_good, place_within, thickness_most}
+use Rattle.planing.proofs.Thinned.{thinned_length, thinned_thickness, thinned_lie, thinned_good, place_within, thickness_most}
 
 -- what is allowed, as inequalities
 pub record Allowed (p : Panel) (c : Cut) : Type 0 where
@@ -52,9 +52,16 @@ cut_good p c e a =
     (thinned_good c.place c.tenths (lamellae p) a.kept both.0)
     (le-ltb 4000 (thickness (thinned c.place c.tenths (lamellae p))) (omega arith)))
 
--- line 12
+-- lines 12 and 17: a cut lamella lies as it did
+cut_lie : (d : ℕ) (p : Panel) (c : Cut) → some (lies d) (lamellae (cut_panel p c)) ≡ some (lies d) (lamellae p)
+cut_lie d p c = ap (some (lies d)) (cut_lamellae p c) ∙ thinned_lie d c.place c.tenths (lamellae p)
+
 cut_along : (p : Panel) (c : Cut) → none_along p ≡ false → none_along (cut_panel p c) ≡ false
-cut_along p c e = ap (λ (ls : List Lamella). not (some along ls)) (cut_lamellae p c) ∙ ap not (thinned_along c.place c.tenths (lamellae p)) ∙ e
+cut_along p c e = ap not (cut_lie 1 p c) ∙ e
+
+cut_lvl : (p : Panel) (c : Cut) → bad_lvl p ≡ false → bad_lvl (cut_panel p c) ≡ false
+cut_lvl p c e =
+    ap (λ (across : Bool). is_lvl (product_of p.bond) && (across || not (eqb p.rate lvl_rate))) (cut_lie 0 p c) ∙ e
 
 -- no line above 13 refuses an accepted panel that is cut as allowed
 pub cut_before_section : (p : Panel) (c : Cut) → panel_refusal p ≡ 0 → allowed p c ≡ true → refusal_before_section (cut_panel p c) ≡ 0
@@ -64,7 +71,7 @@ cut_before_section p c e a =
     let count = ap bad_count (cut_count p c) ∙ none 10 in
     let good = cut_good p c (none 11) (allowed_means p c a) in
     (accepted_iff (down_to 12 (panel_lines (cut_panel p c))) tt).1
-    (refl, (none 2, (none 16, (none 3, (none 4, (none 5, (refl, (none 7, (none 8, (none 9, (count, (good, (cut_along p c (none 12), tt)))))))))))))
+    (refl, (none 2, (none 16, (none 3, (none 4, (none 5, (refl, (none 7, (none 8, (none 9, (count, (good, (cut_lvl p c (none 17), (cut_along p c (none 12), tt))))))))))))))
 
 -- THE LAW: an allowed cut of an accepted panel meets no line but 13
 pub cut_meets : (p : Panel) (c : Cut) → panel_refusal p ≡ 0 → allowed p c ≡ true

@@ -1,4 +1,4 @@
--- Lamellae one of which is thinner: as many, no thicker in all, along where they were, and each kept within line 11's limits.
+-- Lamellae one of which is thinner: as many, no thicker in all, lying as they did, and each kept within line 11's limits.
 use Rattle.std.proofs.lemmas.Bool.{or_parts, or_from}
 use Prim.Native.Nat.{ℕ, zero, suc, ◌+◌, ◌-◌, ◌≤◌, ◌<◌}
 use mathlib.Core.Path.{◌≡◌, refl, ap}
@@ -9,7 +9,7 @@ use borrow.Author.Tests.{le-ltb}
 use lib.Dec.{ltb}
 use lib.ListN.{length, get_or}
 use Rattle.numbers.proofs.Booleans.{in_range}
-use Rattle.panel.specs.Lamellae.{Lamella, lamella, along, thickness}
+use Rattle.panel.specs.Lamellae.{Lamella, lamella, lies, thickness}
 use Rattle.panel.specs.declared.Material.TheVariants.{Wood}
 use Rattle.panel.specs.Materials.{bad_thickness}
 use Rattle.refusals.specs.Causes.{bad_lamella, some}
@@ -29,12 +29,12 @@ thinned_thickness zero tenths (l ∷ ls) = omega arith
 thinned_thickness (suc zero) tenths (l ∷ ls) = omega arith
 thinned_thickness (suc (suc place)) tenths (l ∷ ls) = omega (arith, thinned_thickness (suc place) tenths ls)
 
-pub thinned_along : (place tenths : ℕ) (ls : List Lamella) → some along (thinned place tenths ls) ≡ some along ls
+pub thinned_lie : (d place tenths : ℕ) (ls : List Lamella) → some (lies d) (thinned place tenths ls) ≡ some (lies d) ls
 unfolding thinned some
-thinned_along place tenths [] = refl
-thinned_along zero tenths (l ∷ ls) = refl
-thinned_along (suc zero) tenths (l ∷ ls) = refl
-thinned_along (suc (suc place)) tenths (l ∷ ls) = ap (λ (b : Bool). along l || b) (thinned_along (suc place) tenths ls)
+thinned_lie d place tenths [] = refl
+thinned_lie d zero tenths (l ∷ ls) = refl
+thinned_lie d (suc zero) tenths (l ∷ ls) = refl
+thinned_lie d (suc (suc place)) tenths (l ∷ ls) = ap (λ (b : Bool). lies d l || b) (thinned_lie d (suc place) tenths ls)
 
 -- a thickness of which at least 10.0 mm are kept stays within line 11's limits
 kept_within : (h tenths : ℕ) → least_kept + tenths ≤ h → bad_thickness Wood h ≡ false → bad_thickness Wood (h - tenths) ≡ false

@@ -25,6 +25,7 @@ use Rattle.refusals.specs.declared.refusal.Refusal.TheVariants.{
   FailureTime,
   LamellaCount,
   Lamellae,
+  Lvl,
   NoneAlong,
   Section,
   Space,
@@ -206,6 +207,7 @@ number_told =
       | FailureTime ↦ refl
       | LamellaCount ↦ refl
       | Lamellae ↦ refl
+      | Lvl ↦ refl
       | NoneAlong ↦ refl
       | Section ↦ refl
       | Space ↦ refl

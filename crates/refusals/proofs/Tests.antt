@@ -1,11 +1,12 @@
 -- Tests over lamellae as the chains of the code answer them.
+use Prim.Native.Nat.{ℕ}
 use mathlib.Core.Path.{◌≡◌, refl, ap, ◌∙◌}
 use mathlib.Core.List.{List, [], ◌∷◌, ◌++◌, map}
 use mathlib.Core.Bool.{Bool, ◌||◌, or-false}
 use Rattle.numbers.proofs.Booleans.{or_assoc}
 use lib.Dec.{eqb}
 use Rattle.std.specs.List.{list_any}
-use Rattle.panel.specs.Lamellae.{Lamella, along}
+use Rattle.panel.specs.Lamellae.{Lamella, lies}
 use Rattle.refusals.specs.Causes.{some}
 
 -- some lamella, where lamellae are made of other things: a test of some of these
@@ -14,11 +15,11 @@ unfolding some
 some_map test at [] = refl
 some_map test at (x ∷ xs) = ap (λ (t : Bool). test (at x) || t) (some_map test at xs)
 
--- some lamella along: some direction is 1
-pub along_some : (ls : List Lamella) → some along ls ≡ list_any (λ g. eqb g 1) (map (λ (l : Lamella). l.direction) ls)
+-- some lamella lies in a direction: some direction is that one
+pub lying_some : (d : ℕ) (ls : List Lamella) → some (lies d) ls ≡ list_any (λ g. eqb g d) (map (λ (l : Lamella). l.direction) ls)
 unfolding some
-along_some [] = refl
-along_some (l ∷ ls) = ap (λ (t : Bool). along l || t) (along_some ls)
+lying_some d [] = refl
+lying_some d (l ∷ ls) = ap (λ (t : Bool). lies d l || t) (lying_some d ls)
 
 -- some lamella of one more: some of the former, or the last
 pub some_more : (test : Lamella → Bool) (ls : List Lamella) (l : Lamella) → some test (ls ++ (l ∷ [])) ≡ (some test ls || test l)

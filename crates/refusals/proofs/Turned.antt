@@ -4,7 +4,7 @@ use mathlib.Core.Path.{◌≡◌, refl, ap, ◌∙◌}
 use mathlib.Core.List.{List, [], ◌∷◌, reverse, reverse-cons}
 use mathlib.Core.Bool.{Bool, ◌||◌, or_comm}
 use Rattle.panel.specs.declared.Panel.{Panel}
-use Rattle.panel.specs.Lamellae.{Lamella, lamellae, along}
+use Rattle.panel.specs.Lamellae.{Lamella, lamellae, across, along}
 use Rattle.panel.specs.Faces.{turned, shown, fires, InEvery}
 use Rattle.panel.proofs.Turning.{turned_lamellae, turned_count, thickness_reverse, shown_holds, every_holds}
 use Rattle.section.proofs.Mirroring.{zero_turned}
@@ -29,6 +29,7 @@ lines_turned p =
       turned_lamellae p,
       turned_count p,
       some_reverse bad_lamella (lamellae p),
+      some_reverse across (lamellae p),
       some_reverse along (lamellae p),
       thickness_reverse (lamellae p),
     )

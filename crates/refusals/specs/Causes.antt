@@ -1,15 +1,16 @@
 -- The causes of the lines that are about a panel, each as a test of it, and of lines 14 and 15, of a call: document 01's table, and 02's
--- lines 2 and 16.
+-- lines 2, 16 and 17.
 use Rattle.std.specs.Prelude.{ℕ, List, [], ◌∷◌, Bool, false, not, ◌&&◌, ◌||◌, eqb, ltb}
 use Rattle.numbers.specs.Choice.{outside}
 use Rattle.panel.specs.declared.Board.{Board}
 use Rattle.panel.specs.declared.Cladding.{Cladding}
 use Rattle.panel.specs.declared.Cladding.TheVariants.{Unclad, One, Two}
 use Rattle.panel.specs.declared.Panel.{Panel}
-use Rattle.panel.specs.Lamellae.{Lamella, lamellae, along, thickness}
+use Rattle.panel.specs.Lamellae.{Lamella, lamellae, across, along, thickness}
 use Rattle.panel.specs.declared.Material.TheVariants.{Wood}
 use Rattle.panel.specs.Materials.{bad_thickness}
 use Rattle.panel.specs.Boards.{known, wood_based, material_of, is_f, type_f, whole_joint, charring_start}
+use Rattle.panel.specs.Products.{product_of, is_lvl, lvl_rate}
 use Rattle.section.specs.Tests.{depth_passes}
 
 -- 2, version: "all but 1 and 2"
@@ -20,9 +21,9 @@ bad_version p = outside 1 2 p.version
 abbrev pub bad_face : Panel → Bool
 bad_face p = ltb 2 p.face || (eqb p.version 1 && not (eqb p.face 0))
 
--- 3, bond, gap: "either above 1"
+-- 3, bond, gap: "either above 1"; document 02, 10/14: "Bond value 2, which line 3 now lets through"
 abbrev pub bad_bond_or_gap : Panel → Bool
-bad_bond_or_gap p = ltb 1 p.bond || ltb 1 p.gap
+bad_bond_or_gap p = ltb 2 p.bond || ltb 1 p.gap
 
 -- 4, rate: "outside 50 to 100"
 abbrev pub bad_rate : Panel → Bool
@@ -73,6 +74,10 @@ some test (l ∷ ls) = test l || some test ls
 
 abbrev pub bad_lamellae : Panel → Bool
 bad_lamellae p = some bad_lamella (lamellae p) || ltb 4000 (thickness (lamellae p))
+
+-- 17, LVL: "LVL with a lamella across or rate other than 65"
+abbrev pub bad_lvl : Panel → Bool
+bad_lvl p = is_lvl (product_of p.bond) && (some across (lamellae p) || not (eqb p.rate lvl_rate))
 
 -- 12, lamellae: "none along"
 abbrev pub none_along : Panel → Bool

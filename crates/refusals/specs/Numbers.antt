@@ -14,6 +14,7 @@ use Rattle.refusals.specs.declared.refusal.Refusal.TheVariants.{
   FailureTime,
   LamellaCount,
   Lamellae,
+  Lvl,
   NoneAlong,
   Section,
   Space,
@@ -34,6 +35,7 @@ line_number Boards = 8
 line_number FailureTime = 9
 line_number LamellaCount = 10
 line_number Lamellae = 11
+line_number Lvl = 17
 line_number NoneAlong = 12
 line_number Section = 13
 line_number Space = 14

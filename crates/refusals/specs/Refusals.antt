@@ -1,4 +1,4 @@
--- Document 01, "Where a record is turned back", with line 16 of document 02: the table of a panel and of the bytes in which it may
+-- Document 01, "Where a record is turned back", with lines 16 and 17 of document 02: the table of a panel and of the bytes in which it may
 -- stand. Lines 14 and 15 are about the call.
 use Rattle.std.specs.Prelude.{ℕ, List, [], ◌∷◌, false, ◌||◌}
 use Rattle.panel.specs.declared.Panel.{Panel}
@@ -15,6 +15,7 @@ use Rattle.refusals.specs.Causes.{
   bad_failure_time,
   bad_count,
   bad_lamellae,
+  bad_lvl,
   none_along,
   bad_section,
 }
@@ -23,7 +24,7 @@ use Rattle.refusals.specs.Causes.{
 abbrev pub no_bytes : ByteFaults
 no_bytes = record { length = false; board_count = false; lamella_count = false }
 
--- the table, "Checked from top to bottom"; 16 is "checked after the version"
+-- the table, "Checked from top to bottom"; 16 is "checked after the version", 17 "after the lamellae, before 12"
 abbrev pub table_lines : ByteFaults → Panel → List Line
 table_lines f p =
     line 1 f.length  -- length
@@ -38,6 +39,7 @@ table_lines f p =
     ∷ line 9 (bad_failure_time p)  -- failure time
     ∷ line 10 (f.lamella_count || bad_count p.count)  -- lamella count
     ∷ line 11 (bad_lamellae p)  -- lamellae
+    ∷ line 17 (bad_lvl p)  -- LVL
     ∷ line 12 (none_along p)  -- lamellae
     ∷ line 13 (bad_section p)  -- section
     ∷ []

@@ -1,13 +1,14 @@
-// The causes of lines 2 to 13 and 16, each a test of a panel or of a part of it.
+// The causes of lines 2 to 13, 16 and 17, each a test of a panel or of a part of it.
 ghost use Rattle.std.specs.Prelude.{◌≡◌, ◌≤◌};
-ghost use Rattle.panel.specs.Lamellae.{lamella, along};
+ghost use Rattle.panel.specs.Lamellae.{lamella, lies};
 ghost use Rattle.panel.specs.Lent.{lamellae_in};
 ghost use Rattle.section.specs.Tests.{SectionFits};
-ghost use Rattle.refusals.specs.Causes.{bad_version, bad_face, bad_bond_or_gap, bad_rate, bad_moment, bad_load, bad_types, bad_board, bad_boards, bad_failure_time, bad_count, bad_lamella, bad_lamellae, none_along, bad_section, some};
+ghost use Rattle.refusals.specs.Causes.{bad_version, bad_face, bad_bond_or_gap, bad_rate, bad_moment, bad_load, bad_types, bad_board, bad_boards, bad_failure_time, bad_count, bad_lamella, bad_lamellae, bad_lvl, none_along, bad_section, some};
 
 use panel::boards::{charring_start, is_f, is_known, is_wood_based, material_of, type_f};
 use panel::lamellae::Lamellae;
 use panel::materials::bad_thickness;
+use panel::products::{LVL_RATE, is_lvl, product_of};
 use panel::{Board, Cladding, Material, Panel, WHOLE_JOINT};
 use section::test::depth_passes;
 
@@ -29,7 +30,7 @@ pub(crate) fn bad_face(p: Panel) -> bool
 pub(crate) fn bad_bond_or_gap(p: Panel) -> bool
     ensures { result ≡ bad_bond_or_gap p }
 {
-    (1 < p.bond) | (1 < p.gap)
+    (2 < p.bond) | (1 < p.gap)
 }
 
 // A range, which stays as it is: see `bad_version`.
@@ -122,10 +123,11 @@ fn some_bad_lamella(lamellae: Lamellae<'_>) -> bool
     ))
 }
 
-fn some_along(lamellae: Lamellae<'_>) -> bool
-    ensures { result ≡ some along (lamellae_in lamellae.entry) }
+// The direction is a raw number, kept as it is: see `bad_face`.
+fn some_lying(lamellae: Lamellae<'_>, direction: u8) -> bool
+    ensures { result ≡ some (lies direction) (lamellae_in lamellae.entry) }
 {
-    lamellae.directions.contains(&1)
+    lamellae.directions.contains(&direction)
 }
 
 // The count must be at most 9, which is kept as it is, here and below: the panel is not accepted yet.
@@ -137,12 +139,19 @@ pub(crate) fn bad_lamellae(p: Panel) -> bool
     some_bad_lamella(lamellae) | (4000 < lamellae.total_thickness())
 }
 
-// The count, as above, is kept as it is.
+// The count, as above, is kept as it is, here and below.
+pub(crate) fn bad_lvl(p: Panel) -> bool
+    requires { p.count ≤ 9 }
+    ensures { result ≡ bad_lvl p }
+{
+    is_lvl(product_of(p.bond)) & (some_lying(p.lamellae(), 0) | (p.rate != LVL_RATE))
+}
+
 pub(crate) fn none_along(p: Panel) -> bool
     requires { p.count ≤ 9 }
     ensures { result ≡ none_along p }
 {
-    !some_along(p.lamellae())
+    !some_lying(p.lamellae(), 1)
 }
 
 // The section test must fit its numbers, which is kept as it is: the panel is not accepted yet.

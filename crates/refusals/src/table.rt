@@ -1,4 +1,4 @@
-// The table of refusals, lines 1, 2, 16 and 3 to 13, for a panel alone and for one that stands in bytes.
+// The table of refusals, lines 1, 2, 16, 3 to 11, 17, 12 and 13, for a panel alone and for one that stands in bytes.
 ghost use Rattle.std.specs.Prelude.{◌≡◌, false};
 ghost use Rattle.refusals.specs.Numbers.{by_number, refused_if};
 ghost use Rattle.refusals.specs.Lines.{checked, down_to, below};
@@ -8,7 +8,7 @@ ghost use Rattle.refusals.specs.Refusals.{table_lines, panel_lines};
 use crate::ByteFaults;
 use crate::causes::{
     bad_boards, bad_bond_or_gap, bad_count, bad_face, bad_failure_time, bad_lamellae, bad_load,
-    bad_rate, bad_section, bad_types, bad_version, none_along,
+    bad_lvl, bad_rate, bad_section, bad_types, bad_version, none_along,
 };
 use crate::refusal::Refusal;
 use panel::Panel;
@@ -44,12 +44,13 @@ fn check_upper(f: ByteFaults, p: Panel) -> Result<(), Refusal>
     refuse_if(f.lamella_count | bad_count(p.count), Refusal::LamellaCount)
 }
 
-// Lines 11 to 13. Lines 5 and 10 must leave numbers that the sums can hold.
+// Lines 11, 17, 12 and 13. Lines 5 and 10 must leave numbers that the sums can hold.
 fn check_lower(p: Panel) -> Result<(), Refusal>
     requires { (bad_load p ≡ false) × (bad_count p.count ≡ false) }
     ensures { by_number result ≡ checked (below 10 (panel_lines p)) }
 {
     refuse_if(bad_lamellae(p), Refusal::Lamellae)?;
+    refuse_if(bad_lvl(p), Refusal::Lvl)?;
     refuse_if(none_along(p), Refusal::NoneAlong)?;
     refuse_if(bad_section(p), Refusal::Section)
 }

@@ -9,7 +9,7 @@ use native.Mathlib.Omega.{arith}
 use lib.Dec.{leb}
 use Rattle.panel.specs.declared.Panel.{Panel}
 use Rattle.panel.specs.Lamellae.{Lamella, along, thickness, lamellae}
-use Rattle.panel.specs.Product.{factor_of}
+use Rattle.panel.specs.Products.{product_of, factor_of}
 use Rattle.panel.specs.Faces.{turned}
 use Rattle.panel.proofs.Turning.{turned_lamellae}
 use Rattle.section.specs.declared.Section.{Section}
@@ -151,5 +151,5 @@ mirrored_alike factor moment strength t s r m =
 -- depth 0 passes from one face exactly when from the other
 pub zero_turned : (p : Panel) → depth_passes (turned p) 0 ≡ depth_passes p 0
 zero_turned p =
-    mirrored_alike (factor_of p.bond) p.moment p.strength (thickness (lamellae p)) (section_at p 0) (section_at (turned p) 0)
+    mirrored_alike (factor_of (product_of p.bond)) p.moment p.strength (thickness (lamellae p)) (section_at p 0) (section_at (turned p) 0)
     (turned_mirrored p)

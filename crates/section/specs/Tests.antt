@@ -2,7 +2,7 @@
 use Rattle.std.specs.Prelude.{ℕ, ◌-◌, ◌*◌, ◌≤◌, max, Bool, ◌&&◌, leb, ltb}
 use Rattle.panel.specs.declared.Panel.{Panel}
 use Rattle.panel.specs.Lamellae.{lamellae}
-use Rattle.panel.specs.Product.{factor_of}
+use Rattle.panel.specs.Products.{product_of, factor_of}
 use Rattle.section.specs.declared.Section.{Section}
 use Rattle.section.specs.Sections.{counted, section_of}
 use Rattle.section.specs.Growing.{SumsTo}
@@ -15,8 +15,8 @@ edge s = max (s.p - 2 * s.n * s.lo) (2 * s.n * s.hi - s.p)
 abbrev pub inertia : Section → ℕ
 inertia s = 4 * s.n * s.q - 3 * s.p * s.p
 
--- "The depth passes when N > 0 and 120,000·M·e ≤ 23·f·(4NQ − 3P²)", with the factor 23, at the moment M (N·m) and the strength f (tenths
--- of N/mm²)
+-- "The depth passes when N > 0 and 120,000·M·e ≤ 23·f·(4NQ − 3P²)", with the product's factor for 23, at the moment M (N·m) and the
+-- strength f (tenths of N/mm²)
 unfoldable pub carries : ℕ → ℕ → ℕ → Section → Bool
 carries factor moment strength s =
     ltb 0 s.n && leb (120000 * moment * edge s) (factor * strength * inertia s)
@@ -27,7 +27,7 @@ section_at p depth = section_of (counted depth (lamellae p))
 
 -- whether a depth passes under a moment, and under the panel's own
 abbrev pub passes_under : ℕ → Panel → ℕ → Bool
-passes_under moment p depth = carries (factor_of p.bond) moment p.strength (section_at p depth)
+passes_under moment p depth = carries (factor_of (product_of p.bond)) moment p.strength (section_at p depth)
 
 abbrev pub depth_passes : Panel → ℕ → Bool
 depth_passes p depth = passes_under p.moment p depth

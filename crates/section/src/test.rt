@@ -1,13 +1,13 @@
 // Whether a depth passes.
 ghost use Rattle.std.specs.Prelude.{◌≡◌, ◌*◌, ◌≤◌, leb};
-ghost use Rattle.panel.specs.Product.{factor_of};
+ghost use Rattle.panel.specs.Products.{product_of, factor_of};
 ghost use Rattle.section.specs.Tests.{edge, inertia, carries, depth_passes, SectionFits};
 ghost use Rattle.section.specs.Between.{carries_between};
 
 use crate::Remaining;
 use crate::sums::section_at;
 use panel::Panel;
-use panel::product::factor_of;
+use panel::products::{factor_of, product_of};
 
 // What a section is tested with, within the limits of line 5: the product's factor in twentieths, the moment (N·m) and the strength (tenths
 // of N/mm²).
@@ -40,18 +40,28 @@ impl Remaining {
 }
 
 impl DesignValues {
-    // Those of a panel. The panel must keep the limits of line 5.
-    pub fn of(p: &Panel) -> DesignValues
-        requires { (p.now.moment ≤ 1000000) × (p.now.strength ≤ 400) }
-        ensures factor { result.factor ≡ factor_of p.now.bond }
-        ensures moment { result.moment ≡ p.now.moment }
+    // Those of a panel under a moment. Both must keep the limits of line 5.
+    pub fn under(moment: u32, p: &Panel) -> DesignValues
+        requires { (moment ≤ 1000000) × (p.now.strength ≤ 400) }
+        ensures factor { result.factor ≡ factor_of (product_of p.now.bond) }
+        ensures moment { result.moment ≡ moment }
         ensures strength { result.strength ≡ p.now.strength }
     {
         DesignValues {
-            factor: factor_of(p.bond),
-            moment: p.moment,
+            factor: factor_of(product_of(p.bond)),
+            moment,
             strength: p.strength,
         }
+    }
+
+    // Under its own.
+    pub fn of(p: &Panel) -> DesignValues
+        requires { (p.now.moment ≤ 1000000) × (p.now.strength ≤ 400) }
+        ensures factor { result.factor ≡ factor_of (product_of p.now.bond) }
+        ensures moment { result.moment ≡ p.now.moment }
+        ensures strength { result.strength ≡ p.now.strength }
+    {
+        DesignValues::under(p.moment, p)
     }
 
     // Whether the strength is not exceeded at the outermost fibre.

@@ -12,6 +12,7 @@ pub invariant_of-result : goal.invariant_of-result
 unfolding first_end intact_end
 invariant_of-result c =
     let p = c.args.panel in
+    let thick = c.total_thickness-thick.ensures ∙ ap thickness c.lamellae.ensures in
     let slow : c.k2_of.result * c.rate_of-rate.result ≡ slow_rate p = rw (c.k2_of.ensures, c.rate_of-rate.ensures.0) in
     let depth : c.k2_of.result * c.rate_of-rate.result * (c.failure_of-failure.result - c.start_of-start.result) ≡ depth_at_failure p =
     rw (c.k2_of.ensures, c.rate_of-rate.ensures.0, c.failure_of-failure.ensures, c.start_of-start.ensures) in
@@ -26,12 +27,12 @@ invariant_of-result c =
       plain_is = ap (λ (r : ℕ). 10000 * r) c.rate_of-rate.ensures.0;
       depth_is = depth;
       end_is = end;
-      back_is = ap (λ (k : ℕ). 100000000 * k) (c.from.ensures ∙ c.total_thickness.ensures ∙ ap thickness c.lamellae.ensures);
+      back_is = ap (λ (k : ℕ). 100000000 * k) (c.from.ensures ∙ thick);
       full_is = omega (arith, c.start_of-start.ensures, c.max.ensures);
       slow_most = omega (arith, slow, slow_most p c.requires);
       depth_most = omega (arith, depth, depth_most p c.requires);
       end_most = omega (arith, end, end_most p c.requires);
     }
 
-pub total_thickness-requires : goal.total_thickness-requires
-total_thickness-requires c = rw c.lamellae.ensures (nine_lamellae c.args.panel c.requires.count)
+pub total_thickness-thick-requires : goal.total_thickness-thick-requires
+total_thickness-thick-requires c = rw c.lamellae.ensures (nine_lamellae c.args.panel c.requires.count)
