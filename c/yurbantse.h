@@ -20,10 +20,10 @@
    - a pointer points to as many bytes as are named. Where that is none, nothing is read or written through it; but it is not null even then: the
      address of any object will do;
    - `out` shares no byte with `bytes`, and nothing else writes either before the call returns.
-   The functions keep nothing, allocate nothing and call only memcpy and memset. Two threads may call them at once on different spaces.
+   The functions keep nothing, allocate nothing and call only memcpy. Two threads may call them at once on different spaces.
 
-   Stack, from the call on, without what memcpy and memset use: a card takes at most 2,446 bytes, the least cut 2,510, a refusal
-   104 (read off the machine code and tried on a painted stack, by bench/stack.py). Constants: 6,449 bytes, read only. */
+   Stack, from the call on, without what memcpy uses: a card takes at most 2,430 bytes, the least cut 2,238, a refusal
+   120 (read off the machine code and tried on a painted stack, by bench/stack.py). Constants: 6,449 bytes, read only. */
 #ifndef YURBANTSE_H
 #define YURBANTSE_H
 

@@ -4,7 +4,9 @@ use mathlib.Core.Path.{◌≡◌, sym, ap, ◌∙◌}
 use mathlib.Core.List.{List}
 use native.Mathlib.Omega.{arith}
 use native.Mathlib.Nat.{add-zero, add-suc, suc-add}
+use lib.Dec.{T}
 use lib.ListN.{get_or}
+use Rattle.numbers.specs.Largest.{IsLargest}
 use Rattle.numbers.specs.ByBits.{by_bits}
 use Rattle.numbers.proofs.ByBits.{bits_largest}
 use Rattle.numbers.proofs.LargestKept.{largest_unique}
@@ -14,18 +16,23 @@ use Rattle.limits.specs.Keeps.{ThicknessKeeps}
 use Rattle.basic_times.specs.declared.Role.{Role}
 use Rattle.basic_times.specs.Rules.{parts_per_minute, longest_time, Rule, keeps, rule_of, basic_time}
 use Rattle.basic_times.specs.Tables.{bits, times, table_of, InTable, entry_at}
-use Rattle.basic_times.proofs.Rule.{keeps_down, zero_kept, longer_not_kept, all_bounded, basic_largest, time_kept}
+use Rattle.basic_times.proofs.Rule.{keeps_down, bounded, zero_kept, longer_not_kept, all_bounded, basic_largest, time_kept}
 
--- bit by bit the basic time is found
+-- bit by bit the largest time is found, by any rule
+time_largest :
+    (r : Rule) (top : ℕ) → T (bounded r top) → (h : ℕ) → h ≤ top
+    → IsLargest (keeps parts_per_minute r h) (by_bits (keeps parts_per_minute r h) bits 0)
+time_largest r top t h l =
+    bits_largest (keeps parts_per_minute r h) (keeps_down parts_per_minute r h) bits 0 (zero_kept parts_per_minute r top t h)
+    (longer_not_kept parts_per_minute (omega arith) r top t h l (2 ^ bits) (omega arith))
+
+-- so the basic time is
 pub basic_by_bits :
     (role : Role) (m : Material) (h : ℕ) → h ≤ thickest m → by_bits (keeps parts_per_minute (rule_of role m) h) bits 0 ≡ basic_time role m h
 basic_by_bits role m h within =
     let r = rule_of role m in
-    let bound = all_bounded role m in
     largest_unique (keeps parts_per_minute r h) (by_bits (keeps parts_per_minute r h) bits 0) (basic_time role m h)
-    (bits_largest (keeps parts_per_minute r h) (keeps_down parts_per_minute r h) bits 0 (zero_kept parts_per_minute r (thickest m) bound h)
-    (longer_not_kept parts_per_minute (omega arith) r (thickest m) bound h within (2 ^ bits) (omega arith)))
-    (basic_largest parts_per_minute (omega arith) role m h within)
+    (time_largest r (thickest m) (all_bounded role m) h within) (basic_largest parts_per_minute (omega arith) role m h within)
 
 -- an entry of the list
 times_entry : (r : Rule) (h n place : ℕ) → place < n → get_or (times r h n) place 0 ≡ by_bits (keeps parts_per_minute r (h + place)) bits 0

@@ -90,34 +90,37 @@ module _ (c : Carried) where
 
   -- the lamella that is cut from its depth on ends at `end`, and the next along one begins at `next`
   cut_there :
-      (place : ℕ) → place ≤ length (along_which c) → c.end ≡ thickness (take place (along_which c))
-      → thickness (take (place - 1) (along_which c)) ≤ c.depth → c.depth < c.end
-      → cut_from c.depth 0 (along_which c) ≡ record { end = c.end; next = first_along c.end (drop place (along_which c)) }
+      (depth place : ℕ) → place ≤ length (along_which c) → c.end ≡ thickness (take place (along_which c))
+      → thickness (take (place - 1) (along_which c)) ≤ depth → depth < c.end
+      → cut_from depth 0 (along_which c) ≡ record { end = c.end; next = first_along c.end (drop place (along_which c)) }
   unfolding thickness
-  cut_there zero begun ends from inside = absurd (let z : ⊥ = omega arith in z)
-  cut_there (suc i) begun ends from inside =
+  cut_there depth zero begun ends from inside = absurd (let z : ⊥ = omega arith in z)
+  cut_there depth (suc i) begun ends from inside =
       let before : suc i - 1 ≡ i = omega arith in
-      cut_within (along_which c) i c.depth c.end (first_along c.end (drop (suc i) (along_which c))) (omega arith) (rw before at from) inside
+      cut_within (along_which c) i depth c.end (first_along c.end (drop (suc i) (along_which c))) (omega arith) (rw before at from) inside
       (ends ∙ thickness_next (along_which c) i (omega arith))
       (ap (λ (k : ℕ). first_along c.end (drop k (along_which c))) (sym (add-one i)))
 
-  given : c.depth < c.end → cut_from c.depth 0 (along_which c) ≡ record { end = c.end; next = unwrap_or c.next 0 }
-  given inside =
+  -- so the step is given the same from there to the end of the last lamella begun
+  pub given :
+      (depth : ℕ) → c.depth ≤ depth → depth < c.end
+      → cut_from depth 0 (along_which c) ≡ record { end = c.end; next = unwrap_or c.next 0 }
+  given depth deep inside =
       let next = next_is_first c.end (drop c.place (along_which c)) ∙ ap (λ (o : Option ℕ). unwrap_or o 0) (sym c.after) in
-      cut_there c.place c.begun c.ends c.from inside ∙ (λ i. record { end = c.end; next = next i })
+      cut_there depth c.place c.begun c.ends (omega (arith, c.from)) inside ∙ (λ i. record { end = c.end; next = next i })
 
   -- one step gives the section a tenth of mm deeper
   pub one_deeper : (s : Section) → c.depth < c.end → s ≡ step c.section c.end (unwrap_or c.next 0)
       → s ≡ section_of (counted (c.depth + 1) (along_which c))
   one_deeper s inside e =
       e
-      ∙ (λ i. step (c.carried i) (sym (given inside) i).end (sym (given inside) i).next)
+      ∙ (λ i. step (c.carried i) (sym (given c.depth (omega arith) inside) i).end (sym (given c.depth (omega arith) inside) i).next)
       ∙ step_deeper c.depth (along_which c) c.each
 
   -- and its differences are not cut off
   pub step_fits : c.depth < c.end → StepFits c.section c.end
   step_fits inside =
-      let end : (cut_from c.depth 0 (along_which c)).end ≡ c.end = ap (λ (x : CutLamella). x.end) (given inside) in
+      let end : (cut_from c.depth 0 (along_which c)).end ≡ c.end = ap (λ (x : CutLamella). x.end) (given c.depth (omega arith) inside) in
       rw (c.carried, ← end)
       (cutting_fits (cutting c.depth 0 (along_which c) (omega arith) c.each)
       (omega (arith, c.ends, c.short, thickness_parts (along_which c) c.place)))

@@ -18,18 +18,18 @@ pub struct Carried<'a> {
     pub lamellae: Lamellae<'a>,
     pub section: Section,
     pub depth: u64,
-    place: usize,
-    end: u64,
-    next: Option<u64>,
+    pub place: usize,
+    pub end: u64,
+    pub next: Option<u64>,
     pub ghost short: { thickness (lamellae_in lamellae) ≤ 4000 },
     pub ghost each: { EachThick (lamellae_in lamellae) } by { EachThick-prop (lamellae_in lamellae) },
     pub ghost carried: { section ≡ section_of (counted depth (lamellae_in lamellae)) },
     pub ghost within: { depth ≤ thickness (lamellae_in lamellae) },
-    ghost begun: { place ≤ length (lamellae_in lamellae) },
-    ghost ends: { end ≡ thickness (take place (lamellae_in lamellae)) },
-    ghost from: { thickness (take (place - 1) (lamellae_in lamellae)) ≤ depth },
-    ghost to: { depth ≤ end },
-    ghost after: { next ≡ next_along end (drop place (lamellae_in lamellae)) },
+    pub ghost begun: { place ≤ length (lamellae_in lamellae) },
+    pub ghost ends: { end ≡ thickness (take place (lamellae_in lamellae)) },
+    pub ghost from: { thickness (take (place - 1) (lamellae_in lamellae)) ≤ depth },
+    pub ghost to: { depth ≤ end },
+    pub ghost after: { next ≡ next_along end (drop place (lamellae_in lamellae)) },
 }
 
 // The sums with a part taken off at their exposed end. What is still counted begins at lo.
@@ -140,7 +140,9 @@ impl<'a> Carried<'a> {
         Some(begun)
     }
 
-    // One tenth of mm deeper; none past the last lamella.
+    // One tenth of mm deeper; none past the last lamella. Inlined wherever it is called: what is carried is 13 words, and a loop that calls it
+    // would store and load them at each tenth (docs/SPEED.md).
+    #[inline(always)]
     pub fn deeper(self) -> Option<Carried<'a>>
         ensures { MatchOption result (self.entry.depth ≡ thickness (lamellae_in self.entry.lamellae))
             (λ next. (lamellae_in next.lamellae ≡ lamellae_in self.entry.lamellae) × (next.depth ≡ self.entry.depth + 1)) }

@@ -69,6 +69,10 @@ text_of_card p = text_line card_head (p.version ∷ []) ++ char_lines (shown p) 
 abbrev pub card_most : ℕ
 card_most = 249
 
+-- and the version, a byte, has not ten of them
+abbrev pub text_room : ℕ
+text_room = 248
+
 -- "A refusal prints only `REFUSED` and its number"
 abbrev pub refusal_text : ℕ → List ℕ
 refusal_text n = text_line refusal_head (n ∷ [])

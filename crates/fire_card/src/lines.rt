@@ -2,9 +2,9 @@
 // `Text`.
 ghost use Rattle.std.specs.Prelude.{◌≡◌, ◌+◌, ◌≤◌, ◌++◌, length};
 ghost use Rattle.refusals.specs.Causes.{last_minute};
-ghost use Rattle.fire_card.specs.Card.{char_line, char_lines, rating_lines, text_of_card, card_most};
+ghost use Rattle.fire_card.specs.Card.{char_line, char_lines, rating_lines, text_of_card, text_room};
 
-use crate::CARD_MOST;
+use crate::TEXT_ROOM;
 use charring::{CharringValues, Time};
 use limits::check::Accepted;
 use load::minutes::{minutes_in, seconds_over};
@@ -12,9 +12,9 @@ use ratings::Ratings;
 use text_lines::text::Text;
 
 // The bare minute is kept as it is: the line prints it, and the four are constants.
-fn push_char(text: &mut Text<CARD_MOST>, fire: &CharringValues, minute: u32)
+fn push_char(text: &mut Text<TEXT_ROOM>, fire: &CharringValues, minute: u32)
     requires minute_le_last_minute { minute ≤ last_minute }
-    requires room { length text.old + 38 ≤ card_most }
+    requires room { length text.old + 38 ≤ text_room }
     ensures added { text.new ≡ text.old ++ char_line fire.now.panel minute }
     ensures most { length text.new ≤ length text.old + 38 }
 {
@@ -23,8 +23,8 @@ fn push_char(text: &mut Text<CARD_MOST>, fire: &CharringValues, minute: u32)
     text.push_line(b"CHAR", &[minute, char, depth]);
 }
 
-fn push_chars(text: &mut Text<CARD_MOST>, fire: &CharringValues)
-    requires room { length text.old + 152 ≤ card_most }
+fn push_chars(text: &mut Text<TEXT_ROOM>, fire: &CharringValues)
+    requires room { length text.old + 152 ≤ text_room }
     ensures added { text.new ≡ text.old ++ char_lines fire.now.panel }
     ensures most { length text.new ≤ length text.old + 152 }
 {
@@ -33,8 +33,8 @@ fn push_chars(text: &mut Text<CARD_MOST>, fire: &CharringValues)
     }
 }
 
-fn push_ratings(text: &mut Text<CARD_MOST>, ratings: &Ratings)
-    requires { length text.old + 81 ≤ card_most }
+fn push_ratings(text: &mut Text<TEXT_ROOM>, ratings: &Ratings)
+    requires { length text.old + 81 ≤ text_room }
     ensures { text.new ≡ text.old ++ rating_lines ratings.now.panel }
 {
     let load = u32::from(ratings.load.number());
@@ -50,7 +50,7 @@ fn push_ratings(text: &mut Text<CARD_MOST>, ratings: &Ratings)
 }
 
 // The whole card.
-pub(crate) fn text_of_card(accepted: Accepted) -> Text<CARD_MOST>
+pub(crate) fn text_of_card(accepted: Accepted) -> Text<TEXT_ROOM>
     ensures { result ≡ text_of_card accepted }
 {
     let mut text = Text::new();

@@ -10,11 +10,15 @@ use Rattle.refusals.proofs.Unused.{refusal_unused}
 use Rattle.limits.proofs.Unused.{passes_same}
 use Rattle.limits.proofs.Minutes.{minute_refusal_same}
 use Rattle.charring.proofs.Unused.{tenths_same}
+use Rattle.load.specs.Failure.{EveryTenthPasses, TimePasses}
 use Rattle.load.specs.LoadMinute.{every_from, time_test, whole_part, load_minute, printed_load, load_seconds, printed_load_seconds}
 use Rattle.load.specs.Answers.{load_answer, minutes_and_seconds, load_time_answer, reserve_of, reserve_answer}
 
 depth_passes_same : (p q : Panel) → SameUsed p q → depth_passes p ≡ depth_passes q
 depth_passes_same p q h i depth = passes_same p q h depth i
+
+pub time_passes_same : (p q : Panel) → SameUsed p q → TimePasses p ≡ TimePasses q
+time_passes_same p q h = λ i n m. EveryTenthPasses (depth_passes_same p q h i) (tenths_same p q h n m i)
 
 whole_part_same : (unit : ℕ) (p q : Panel) → SameUsed p q → whole_part (time_test p) unit ≡ whole_part (time_test q) unit
 unfolding time_test

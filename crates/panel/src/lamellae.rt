@@ -13,7 +13,7 @@ pub struct Lamellae<'a> {
 }
 
 // The sum of at most nine thicknesses.
-fn sum_of(thicknesses: &[u16]) -> u32
+pub fn sum_of(thicknesses: &[u16]) -> u32
     requires { length thicknesses.now ≤ 9 }
     ensures { result ≡ sum thicknesses.now }
 {

@@ -17,13 +17,13 @@ use load::lasting::lasts;
 use panel::Panel;
 use ratings::Ratings;
 
-// An accepted panel, its REI grade, and the sums of its layer times kept for its cuts. It holds the panel, since the check lends no part of a
+// An accepted panel, its REI grade, and the sums of its layer times kept for its cuts, lent. It holds the panel, since the check lends no part of a
 // struct with a field that has a model.
 #[derive(Clone, Copy)]
-pub(crate) struct Rated {
+pub(crate) struct Rated<'a> {
     pub(crate) panel: Panel,
     grade: Grade,
-    kept: KeptSums,
+    kept: &'a KeptSums,
     ghost accepted: { panel_refusal panel ≡ 0 },
     ghost nine: { panel.count ≤ 9 },
     ghost by_rei: { grade ≡ rei_grade panel },
@@ -54,14 +54,14 @@ fn is_lowered(minutes: Minute, q: Panel, kept: &KeptSums) -> bool
     ei_minute_up_to(Accepted::known(q), minutes, Some(kept)).number() < least
 }
 
-impl Rated {
-    pub(crate) fn of(accepted: Accepted) -> Rated
+impl<'a> Rated<'a> {
+    pub(crate) fn of(accepted: Accepted, kept: &'a KeptSums) -> Rated<'a>
         ensures { result.panel ≡ accepted }
     {
         Rated {
             panel: accepted.panel(),
             grade: Ratings::of(accepted).rei_grade(),
-            kept: KeptSums::of(accepted),
+            kept,
         }
     }
 
@@ -93,7 +93,7 @@ impl Rated {
         is_lowered(
             Minute::of(self.grade.minutes),
             cut_panel(self.panel, at, tenths),
-            &self.kept,
+            self.kept,
         )
     }
 }

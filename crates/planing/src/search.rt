@@ -4,10 +4,11 @@ ghost use Rattle.planing.specs.Answers.{first_behind, most_cut, planing_of};
 
 use crate::cuts::Rated;
 use crate::{Cut, MOST_CUT};
+use layers::kept::KeptSums;
 use limits::check::Accepted;
 
 // Behind how many others the nearest lamella to the fire stands off which so many tenths may be taken and lower the grade.
-fn first_behind(rated: &Rated, tenths: u16) -> Option<usize>
+fn first_behind(rated: &Rated<'_>, tenths: u16) -> Option<usize>
     requires { (0 < tenths) × (tenths ≤ most_cut) }
     ensures { MatchOption result (first_behind rated.now.panel tenths ≡ rated.now.panel.count)
         (λ behind. (behind ≡ first_behind rated.now.panel tenths) × (behind < rated.now.panel.count)) }
@@ -20,7 +21,8 @@ fn first_behind(rated: &Rated, tenths: u16) -> Option<usize>
 pub fn least_cut(accepted: Accepted) -> Option<Cut>
     ensures { result ≡ planing_of accepted }
 {
-    let rated = Rated::of(accepted);
+    let kept = KeptSums::of(accepted);
+    let rated = Rated::of(accepted, &kept);
     for tenths in 1..=MOST_CUT {
         if let Some(behind) = first_behind(&rated, tenths) {
             return Some(Cut {

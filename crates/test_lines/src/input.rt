@@ -1,5 +1,5 @@
 // The words of a line, and what a word spells.
-ghost use Rattle.std.specs.Prelude.{◌≡◌, ◌≤◌, ◌==◌, length, position};
+ghost use Rattle.std.specs.Prelude.{◌≡◌, ◌*◌, ◌≤◌, ◌==◌, length, position};
 ghost use Rattle.std.specs.List.{before_first, after_first};
 ghost use Rattle.std.specs.Str.{byte};
 
@@ -64,7 +64,8 @@ fn hex_digit(c: u8) -> u8
 // Puts the bytes that a hexadecimal word spells at the start of out, as many as fit, and answers these. A lone `-` spells none. Digits are
 // kept as they are: see `hex_digit`.
 pub fn hex_bytes<'a>(word: &[u8], out: &'a mut [u8]) -> &'a [u8]
-    ensures { length result.now ≤ length out.old }
+    ensures room { length result.now ≤ length out.old }
+    ensures spelt { 2 * length result.now ≤ length word.now }
 {
     let (pairs, _) = word.as_chunks::<2>();
     for (byte, [high, low]) in out.iter_mut().zip(pairs) {

@@ -57,7 +57,11 @@ digits_enough (suc k) n h =
     by_size (λ (ds : List ℕ). ds ≡ digits (suc (suc k)) n) (suc (suc k)) n (λ l. sym (digits_one (suc k) n l))
     (λ l. ap (λ (ds : List ℕ). ds ++ ((48 + n % 10) ∷ [])) (digits_enough k (n / 10) (tenth_below (suc k) n h)) ∙ sym (digits_more (suc k) n l))
 
--- so a number of 32 bits is its tenth part and one digit more
+-- so a number below 10 ^ 9 has at most nine
+pub decimal_shorter : (n : ℕ) → n < 1000000000 → length (decimal n) ≤ 9
+decimal_shorter n h = rw (digits_enough 8 n h) (length_digits 9 n)
+
+-- and a number of 32 bits is its tenth part and one digit more
 pub decimal_more : (n : ℕ) → 10 ≤ n → n < 10000000000 → decimal n ≡ decimal (n / 10) ++ ((48 + n % 10) ∷ [])
 decimal_more n h k =
     digits_more 9 n h ∙ ap (λ (ds : List ℕ). ds ++ ((48 + n % 10) ∷ [])) (sym (digits_enough 8 (n / 10) (omega arith)))

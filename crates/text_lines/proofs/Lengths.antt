@@ -7,7 +7,7 @@ use lib.ListN.{length, take, get_or, length-append}
 use lib.Seq.{take-suc}
 use native.Mathlib.Numerals.{add-one}
 use Rattle.text_lines.specs.Text.{decimal, text_fields, text_line, time_line}
-use Rattle.text_lines.proofs.Digits.{decimal_length}
+use Rattle.text_lines.proofs.Digits.{decimal_length, decimal_shorter}
 
 pub length_fields : (ns : List ℕ) → length (text_fields ns) ≤ 11 * length ns
 unfolding text_fields
@@ -16,6 +16,11 @@ length_fields (n ∷ ns) = simp length-append (omega (arith, decimal_length n, l
 
 pub length_line : (head ns : List ℕ) → length (text_line head ns) ≤ length head + 11 * length ns + 1
 length_line head ns = simp length-append (omega (arith, length_fields ns))
+
+-- one number of at most nine digits
+pub line_shorter : (head : List ℕ) (n : ℕ) → n < 1000000000 → length (text_line head (n ∷ [])) ≤ length head + 11
+unfolding text_fields
+line_shorter head n h = simp length-append (omega (arith, decimal_shorter n h))
 
 pub length_time : (head : List ℕ) (minutes seconds : ℕ) → length (time_line head minutes seconds) ≤ length head + 15
 length_time head minutes seconds = simp length-append (omega (arith, decimal_length minutes))

@@ -2,3 +2,5 @@
 pub mod Digits
 pub mod Lengths
 pub mod Reading
+-- What the functions need: stores that follow each other.
+pub mod Storing

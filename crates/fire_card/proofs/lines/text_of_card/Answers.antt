@@ -1,6 +1,7 @@
 -- `fire_card::lines::text_of_card` meets its contract: the depths of the fire that is shown, and the lesser times. Assumes nothing.
-use Rattle.std.proofs.Common.{ℕ, List, [], ◌∷◌, ◌++◌, ap, ap₂, ◌∙◌}
+use Rattle.std.proofs.Common.{ℕ, List, [], ◌∷◌, ◌++◌, length, arith, ap, ap₂, ◌∙◌}
 use Rattle.text_lines.specs.Text.{text_line}
+use Rattle.text_lines.proofs.Lengths.{line_shorter}
 use Rattle.charring.proofs.Accepted.{fire_fits}
 use Rattle.fire_card.specs.Card.{card_head, char_lines, rating_lines, text_of_card}
 use Rattle.panel.specs.declared.Panel.{Panel}
@@ -8,6 +9,13 @@ use Rattle.fire_card.proofs.lines.text_of_card.Goals as goal
 
 pub of-requires : goal.of-requires
 of-requires c = fire_fits c.panel-2.result c.panel-2.ensures.accepted
+
+-- the version is one digit, and so the rest has room
+pub push_ratings-requires : goal.push_ratings-requires
+push_ratings-requires c =
+    let head = ap length (c.push_line.ensures.added ∙ ap (λ (text : List ℕ). text ++ text_line card_head (c.from.result ∷ [])) c.new-text.ensures) in
+    let short = line_shorter card_head c.from.result (omega (arith, c.from.ensures, c.panel.ensures.panel, c.panel.ensures.keeps.version_most)) in
+    omega (arith, head, short, c.push_chars.ensures.most)
 
 pub returns : goal.returns
 unfolding text_of_card

@@ -1,10 +1,12 @@
--- `text_lines::text::Text::push_time` meets its contract: the field is at most eleven bytes, and four follow it.
-use Rattle.std.proofs.Common.{arith, rules, length, ap, length-append}
+-- `text_lines::text::Text::push_time` meets its contract: what is stored behind the text is added to it.
+use Rattle.std.proofs.Common.{arith, length, ap}
+use Rattle.std.proofs.lemmas.List.{length-take-le}
+use Rattle.text_lines.proofs.Lengths.{length_time}
+use Rattle.text_lines.proofs.Storing.{put_added}
 use Rattle.text_lines.proofs.text.Text.push_time.Goals as goal
 
-pub push_bytes-requires-2 : goal.push_bytes-requires-2
-push_bytes-requires-2 g c = (search rules, omega (arith, simp length-append at (ap length c.push_bytes.ensures)))
-
-pub returns-clause-most : goal.returns-clause-most
-returns-clause-most g c =
-    omega (arith, simp length-append at (ap length c.push_bytes.ensures), simp length-append at (ap length c.push_bytes-2.ensures))
+pub returns-clause-added : goal.returns-clause-added
+returns-clause-added g c =
+    let used = length-take-le c.self.inside.length c.self.inside.bytes (omega arith) in
+    rw (← c.self.view_is) (put_added c.put_time-self-inside.ensures
+    (omega (arith, used, ap length c.self.view_is, length_time c.args.head.now c.args.minutes c.args.seconds)))

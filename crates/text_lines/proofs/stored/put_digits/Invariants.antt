@@ -1,7 +1,7 @@
--- `text_lines::text::put_digits` meets its contract: the digits of the rest come before those that are stored.
+-- `text_lines::stored::put_digits` meets its contract: the digits of the rest come before those that are stored.
 use Rattle.std.proofs.Common.{◌≡◌, ◌+◌, ◌^◌, ◌<◌, ◌≤◌, ◌++◌, drop}
 use Rattle.text_lines.specs.Text.{digits, decimal}
-use Rattle.text_lines.proofs.text.put_digits.Given as goal
+use Rattle.text_lines.proofs.stored.put_digits.Given as goal
 
 abbrev pub invariant-loop-rest : goal.invariant-loop-rest
 invariant-loop-rest l = record {

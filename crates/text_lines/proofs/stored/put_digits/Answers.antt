@@ -1,7 +1,7 @@
--- `text_lines::text::put_digits` meets its contract: each round stores the last digit of what is left of the number.
+-- `text_lines::stored::put_digits` meets its contract: each round stores the last digit of what is left of the number.
 use Rattle.std.proofs.Common.{◌-◌, ◌+◌, ◌≡◌, ◌<◌, arith, add-one}
 use Rattle.text_lines.proofs.Digits.{digit_stored, first_stored, tenth_below}
-use Rattle.text_lines.proofs.text.put_digits.Goals as goal
+use Rattle.text_lines.proofs.stored.put_digits.Goals as goal
 
 pub loop-rest-preserved : goal.loop-rest-preserved
 loop-rest-preserved c =
