@@ -106,7 +106,7 @@ module _ (c : Carried) where
       (depth : ℕ) → c.depth ≤ depth → depth < c.end
       → cut_from depth 0 (along_which c) ≡ record { end = c.end; next = unwrap_or c.next 0 }
   given depth deep inside =
-      let next = next_is_first c.end (drop c.place (along_which c)) ∙ ap (λ (o : Option ℕ). unwrap_or o 0) (sym c.after) in
+      let next = next_is_first c.end (drop c.place (along_which c)) ∙ ap (λ (o : Option ℕ). unwrap_or o 0) (sym (c.after (omega arith))) in
       cut_there depth c.place c.begun c.ends (omega (arith, c.from)) inside ∙ (λ i. record { end = c.end; next = next i })
 
   -- one step gives the section a tenth of mm deeper

@@ -29,7 +29,7 @@ pub struct Carried<'a> {
     pub ghost ends: { end ≡ thickness (take place (lamellae_in lamellae)) },
     pub ghost from: { thickness (take (place - 1) (lamellae_in lamellae)) ≤ depth },
     pub ghost to: { depth ≤ end },
-    pub ghost after: { next ≡ next_along end (drop place (lamellae_in lamellae)) },
+    pub ghost after: { depth < end → next ≡ next_along end (drop place (lamellae_in lamellae)) },
 }
 
 // The sums with a part taken off at their exposed end. What is still counted begins at lo.

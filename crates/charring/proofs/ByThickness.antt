@@ -9,7 +9,6 @@ use Rattle.panel.proofs.Used.{thicknesses_lamellae_of}
 use Rattle.panel.specs.declared.Panel.{Panel}
 use Rattle.panel.specs.Lamellae.{Lamella, lamellae, thickness}
 use Rattle.charring.specs.Rates.{tenth, fast_run, lines_from, line_end, bond_lines}
-use Rattle.charring.specs.Fits.{CharringFits}
 use Rattle.charring.specs.Lines.{by_thickness}
 
 -- The lines below a depth, from lamella to lamella
@@ -58,10 +57,10 @@ same_thickness [] = refl
 same_thickness (l ∷ ls) = ap (λ (x : ℕ). l.thickness + x) (same_thickness ls)
 
 module _ (p : Panel) (h : p.count ≤ length p.thicknesses) where
-  pub within_panel : CharringFits p → 0 + tenth * thickness (by_thickness (take p.count p.thicknesses)) ≤ 400000000000
+  pub within_panel : thickness (lamellae p) ≤ 4000 → 0 + tenth * thickness (by_thickness (take p.count p.thicknesses)) ≤ 400000000000
   within_panel k =
       rw (← thicknesses_lamellae_of p.directions p.thicknesses p.count h, same_thickness (lamellae p))
-      (omega (arith, k.thick))
+      (omega (arith, k))
 
   pub lines_of_panel : p.bond ≡ 1 → lines_from 0 (by_thickness (take p.count p.thicknesses)) ≡ bond_lines p
   unfolding bond_lines

@@ -1,8 +1,7 @@
 // The bond lines that matter, one after the other from the exposed face.
 ghost use Rattle.std.specs.Prelude.{◌≡◌, ◌+◌, ◌*◌, ◌≤◌};
-ghost use Rattle.panel.specs.Lamellae.{thickness};
+ghost use Rattle.panel.specs.Lamellae.{lamellae, thickness};
 ghost use Rattle.charring.specs.Rates.{tenth, fast_run, line_end};
-ghost use Rattle.charring.specs.Fits.{CharringFits};
 ghost use Rattle.charring.specs.Lines.{by_thickness};
 
 use crate::{FAST_RUN, TENTH};
@@ -29,11 +28,11 @@ impl<'a> Lines<'a> {
     ghost use Rattle.charring.specs.Rates.{bond_lines};
     ghost use Rattle.charring.specs.Walk.{lines_left};
 
-    // The lines of a panel. Where the bond does not fall there are none, so in LVL none. The limits must hold; what is asked is kept as it is,
+    // The lines of a panel. Where the bond does not fall there are none, so in LVL none. The limits of lines 10 and 11 must hold; what is asked is kept as it is,
     // since a fire is made of a panel that no `Accepted` need be. The bond's number is kept as it is: a panel is plain data, whose raw numbers
     // calls refuse. So is the used front of the thicknesses: directions do not matter here, and no `Lamellae` is wanted.
     pub fn of(p: &'a Panel) -> Lines<'a>
-        requires { CharringFits p.now }
+        requires { (p.now.count ≤ 9) × (thickness (lamellae p.now) ≤ 4000) }
         ensures { lines_left result ≡ bond_lines p.now }
     {
         if p.bond != 1 {

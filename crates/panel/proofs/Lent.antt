@@ -82,7 +82,7 @@ pairs_in l =
     ∙ sym (get_or-map (λ (p : ℕ × ℕ). lamella p.0 p.1) pairs i (0, 0)))
 
 -- their thickness is the sum of the thicknesses
-thickness_sum : (ls : List Lamella) → thickness ls ≡ sum (map (λ (x : Lamella). x.thickness) ls)
+pub thickness_sum : (ls : List Lamella) → thickness ls ≡ sum (map (λ (x : Lamella). x.thickness) ls)
 unfolding thickness
 thickness_sum [] = refl
 thickness_sum (x ∷ ls) =

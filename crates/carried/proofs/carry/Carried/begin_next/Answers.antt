@@ -62,7 +62,7 @@ invariant_of-begun c =
       ends = next_ends here c.from.result (there now) (thick now);
       from = rw same (omega (arith, here.ends, c.requires));
       to = omega (arith, here.to);
-      after = c.next_along-begun.ensures ∙ ap (next_along (here.end + c.from.result)) c.starting_at.ensures;
+      after = λ _. c.next_along-begun.ensures ∙ ap (next_along (here.end + c.from.result)) c.starting_at.ensures;
     }
 
 pub returns : goal.returns

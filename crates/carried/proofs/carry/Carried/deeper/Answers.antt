@@ -31,5 +31,5 @@ invariant_of-cut c =
       ends = cut.ends;
       from = omega (arith, cut.from);
       to = omega (arith, cuts);
-      after = cut.after;
+      after = λ inside. cut.after (omega arith);
     }

@@ -10,7 +10,7 @@ pub returns-then-p-ne1 : goal.returns-then-p-ne1
 returns-then-p-ne1 c = no_lines c.args.p.now c.if-p-ne1.true
 
 pub invariant_of-result-2 : goal.invariant_of-result-2
-invariant_of-result-2 c = record { within = within_panel c.args.p.now (omega arith) c.requires }
+invariant_of-result-2 c = record { within = within_panel c.args.p.now (omega arith) c.requires.1 }
 
 pub returns : goal.returns
 returns c = lines_of_panel c.args.p.now (omega arith) c.if-p-ne1.false
