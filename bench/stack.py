@@ -8,8 +8,8 @@ call on, the return address among them, by two ways:
 - the most that was used, that included, on a painted stack (bench/stack.c), over the records of test_calls/data/cards,
   records and planing and 300 random panels.
 
-Ends with status 1 where more was used than there can be, or a function recurs, or calls what the machine code does not name, or
-another function of C than memcpy.
+Ends with status 1 where more was used than there can be, or a function recurs, or calls what the machine code does not name, and
+where the library wants another name from outside than memcpy.
 """
 import os
 import random
@@ -35,6 +35,12 @@ def build(archive, folder, compiler):
     program = os.path.join(folder, "stack")
     needs.run([compiler, "-O2", "-Wall", "-Wextra", "-Wl,-z,now", f"-I{HERE}/../c", f"{HERE}/stack.c", archive, "-o", program])
     return program
+
+
+def of_others(archive):
+    """The names that the library wants from outside."""
+    said = subprocess.run(["objdump", "-t", archive], capture_output=True, text=True, check=True).stdout
+    return {line.split()[-1] for line in said.splitlines() if "*UND*" in line}
 
 
 def records():
@@ -142,6 +148,8 @@ def main():
     archive = os.path.join(given.repository, "target/staticlib/libcard_c.a")
     needs.made(archive, "bash tools/staticlib.sh")
     needs.installed(given.cc, "objdump")
+    if of_others(archive) != {"memcpy"}:
+        sys.exit(f"the library wants {' '.join(sorted(of_others(archive))) or 'nothing'} from outside, and not memcpy alone")
     folder = os.path.join(given.repository, "target/bench")
     os.makedirs(folder, exist_ok=True)
     program = build(archive, folder, given.cc)
