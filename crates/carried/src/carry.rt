@@ -102,10 +102,12 @@ fn next_along(lamellae: Lamellae<'_>, top: u64) -> Option<u64>
 }
 
 impl<'a> Carried<'a> {
-    // At depth 0, where no lamella is cut yet. The lamellae must keep the limits of line 11.
+    // At depth 0, where no lamella is cut yet. The lamellae must keep the limits of line 11. The next along one is known here too, and of all
+    // that `deeper` answers (`after`), though a `Carried` need not know it where no lamella is being cut.
     pub fn start(lamellae: Lamellae<'a>) -> Carried<'a>
         requires { LamellaeFit (lamellae_in lamellae) }
-        ensures { (lamellae_in result.lamellae ≡ lamellae_in lamellae.entry) × (result.depth ≡ 0) }
+        ensures along { (lamellae_in result.lamellae ≡ lamellae_in lamellae.entry) × (result.depth ≡ 0) }
+        ensures after { result.next ≡ next_along result.end (drop result.place (lamellae_in result.lamellae)) }
     {
         Carried {
             lamellae,
@@ -144,8 +146,9 @@ impl<'a> Carried<'a> {
     // would store and load them at each tenth (docs/SPEED.md).
     #[inline(always)]
     pub fn deeper(self) -> Option<Carried<'a>>
-        ensures { MatchOption result (self.entry.depth ≡ thickness (lamellae_in self.entry.lamellae))
+        ensures along { MatchOption result (self.entry.depth ≡ thickness (lamellae_in self.entry.lamellae))
             (λ next. (lamellae_in next.lamellae ≡ lamellae_in self.entry.lamellae) × (next.depth ≡ self.entry.depth + 1)) }
+        ensures after { MatchOption result Unit (λ next. next.next ≡ next_along next.end (drop next.place (lamellae_in next.lamellae))) }
     {
         let mut cut = if self.depth < self.end {
             self

@@ -28,9 +28,9 @@ impl<'a> Lines<'a> {
     ghost use Rattle.charring.specs.Rates.{bond_lines};
     ghost use Rattle.charring.specs.Walk.{lines_left};
 
-    // The lines of a panel. Where the bond does not fall there are none, so in LVL none. The limits of lines 10 and 11 must hold; what is asked is kept as it is,
-    // since a fire is made of a panel that no `Accepted` need be. The bond's number is kept as it is: a panel is plain data, whose raw numbers
-    // calls refuse. So is the used front of the thicknesses: directions do not matter here, and no `Lamellae` is wanted.
+    // The lines of a panel. Where the bond does not fall there are none, so in LVL none. The limits of lines 10 and 11 must hold; what is asked
+    // is kept as it is, since a fire is made of a panel that no `Accepted` need be. The bond's number is kept as it is: a panel is plain data,
+    // whose raw numbers calls refuse. So is the used front of the thicknesses: directions do not matter here, and no `Lamellae` is wanted.
     pub fn of(p: &'a Panel) -> Lines<'a>
         requires { (p.now.count ≤ 9) × (thickness (lamellae p.now) ≤ 4000) }
         ensures { lines_left result ≡ bond_lines p.now }

@@ -49,7 +49,7 @@ module _ (v : DesignValues) (ls : List Lamella) (c next : Carried) (at : Passing
       ap (passes_with v ls) one ∙ ap (carries_with v) same ∙ at.every c.depth (le_refl c.depth)
 
 later : (c : In-Some) → lamellae_in c.in-Some.next.lamellae ≡ lamellae_in c.start-c.result.lamellae
-later c = c.in-Some.ensures.0 ∙ c.loop-next.invariant.along
+later c = c.in-Some.ensures.along.0 ∙ c.loop-next.invariant.along
 
 judged : (c : After-section_passes) → lamellae_in c.in-Some.next.lamellae ≡ lamellae_in c.start-c.result.lamellae
     → c.section_passes.result ≡ passes_with c.of-design.result (lamellae_in c.start-c.result.lamellae) c.in-Some.next.depth
@@ -64,7 +64,7 @@ answer : (c : After-deeper)
 unfolding last_passing
 answer c next =
     let v = c.of-design.ensures in
-    let own = c.start-c.ensures.0 ∙ c.lamellae.ensures in
+    let own = c.start-c.ensures.along.0 ∙ c.lamellae.ensures in
     let at = c.loop-next.invariant in
     last_found (passes_with c.of-design.result (lamellae_in c.start-c.result.lamellae)) (thickness (lamellae_in c.start-c.result.lamellae))
     c.loop-next.c.depth (omega (arith, c.loop-next.c.within, ap thickness at.along)) at.every next
@@ -81,7 +81,7 @@ start-c-requires c = rw c.lamellae.ensures (accepted_lamellae c.panel-p.result c
 pub loop-next-init : goal.loop-next-init
 loop-next-init c =
     let v = c.of-design.ensures in
-    let own = c.start-c.ensures.0 ∙ c.lamellae.ensures in
+    let own = c.start-c.ensures.along.0 ∙ c.lamellae.ensures in
     record {
       along = refl;
       every = λ d u.
@@ -95,7 +95,7 @@ returns-then-not-section_passes c =
     let at = goal.at.returns-then-not-section_passes c in
     answer at.After-deeper
     (λ _.
-    ap (passes_with c.of-design.result (lamellae_in c.start-c.result.lamellae)) (sym c.in-Some.ensures.1)
+    ap (passes_with c.of-design.result (lamellae_in c.start-c.result.lamellae)) (sym c.in-Some.ensures.along.1)
     ∙ sym (judged at.After-section_passes (later at.In-Some))
     ∙ c.if-not-section_passes.true)
 
@@ -103,7 +103,7 @@ pub loop-next-preserved-else-not-section_passes : goal.loop-next-preserved-else-
 loop-next-preserved-else-not-section_passes c =
     let at = goal.at.loop-next-preserved-else-not-section_passes c in
     let along = later at.In-Some in
-    further c.of-design.result _ c.loop-next.c c.in-Some.next c.loop-next.invariant along c.in-Some.ensures.1
+    further c.of-design.result _ c.loop-next.c c.in-Some.next c.loop-next.invariant along c.in-Some.ensures.along.1
     (sym (judged at.After-section_passes along) ∙ c.if-not-section_passes.false)
 
 pub loop-next-preserved : goal.loop-next-preserved
@@ -111,10 +111,10 @@ loop-next-preserved c =
     let along = later (goal.at.loop-next-preserved c).In-Some in
     let v = c.of-design.result in
     let i = c.loop-next.invariant in
-    further v _ c.loop-next.c c.in-Some.next i along c.in-Some.ensures.1
-    (passes_still v _ c.loop-next.c c.in-Some.next i along c.in-Some.ensures.1 c.if-next-c.false)
+    further v _ c.loop-next.c c.in-Some.next i along c.in-Some.ensures.along.1
+    (passes_still v _ c.loop-next.c c.in-Some.next i along c.in-Some.ensures.along.1 c.if-next-c.false)
 
 pub returns : goal.returns
 returns c =
     answer (goal.at.returns c).After-deeper
-    (λ less. absurd (let z : ⊥ = omega (arith, c.in_default.ensures, ap thickness c.loop-next.invariant.along) in z))
+    (λ less. absurd (let z : ⊥ = omega (arith, c.in_default.ensures.along, ap thickness c.loop-next.invariant.along) in z))
