@@ -18,18 +18,14 @@ inside c =
 pub step_of-cut-requires : goal.step_of-cut-requires
 step_of-cut-requires c = step_fits c.if-self.cut (inside (goal.at.step_of-cut-requires c).Joined-self)
 
-pub invariant_of-cut : goal.invariant_of-cut
-invariant_of-cut c =
+-- so the step cuts it, and the rest is found from what holds before
+pub invariant_of-cut-clause-carried : goal.invariant_of-cut-clause-carried
+invariant_of-cut-clause-carried c = one_deeper c.if-self.cut _ (inside (goal.at.invariant_of-cut-clause-carried c).Joined-self) c.step_of-cut.ensures
+
+pub invariant_of-cut-clause-within : goal.invariant_of-cut-clause-within
+invariant_of-cut-clause-within c =
     let cut = c.if-self.cut in
-    let cuts = inside (goal.at.invariant_of-cut c).Joined-self in
-    record {
-      short = cut.short;
-      each = cut.each;
-      carried = one_deeper cut _ cuts c.step_of-cut.ensures;
-      within = omega (arith, cuts, cut.ends, thickness_parts (lamellae_in cut.lamellae) cut.place);
-      begun = cut.begun;
-      ends = cut.ends;
-      from = omega (arith, cut.from);
-      to = omega (arith, cuts);
-      after = λ inside. cut.after (omega arith);
-    }
+    omega (arith, inside (goal.at.invariant_of-cut-clause-within c).Joined-self, cut.ends, thickness_parts (lamellae_in cut.lamellae) cut.place)
+
+pub invariant_of-cut-clause-to : goal.invariant_of-cut-clause-to
+invariant_of-cut-clause-to c = omega (arith, inside (goal.at.invariant_of-cut-clause-to c).Joined-self)

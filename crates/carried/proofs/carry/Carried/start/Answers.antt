@@ -15,5 +15,5 @@ invariant_of-result c =
       ends = omega arith;
       from = omega arith;
       to = omega arith;
-      after = λ _. c.next_along.ensures;
+      after = λ inside. absurd (let z : ⊥ = omega (arith, inside) in z);
     }
